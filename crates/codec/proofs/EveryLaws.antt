@@ -1,0 +1,88 @@
+-- Laws of `every` and `total`. Assumes nothing.
+use Prim.Native.Nat.{ℕ, zero, suc, _+_, _*_, _≤_, _<_}
+use mathlib.Core.Path.{_≡_, refl, _∙_, sym, ap}
+use mathlib.Core.List.{List, [], _∷_, _++_}
+use mathlib.Core.Bool.{Bool, true, false, _&&_, and-false, true≢false}
+use mathlib.Core.Logic.{⊎-elim}
+use native.Mathlib.Omega.{arith}
+use native.Mathlib.Numerals.{add-one}
+use native.Mathlib.Nat.{eq-or-lt-of-le}
+use lib.ListN.{length, getD, take, drop, replicate}
+use lib.Seq.{take-suc}
+use lib.Dec.{eqb}
+use lib.Bits.{bitOr, or-add-and, and-le-l, and-le-r}
+use borrow.Author.Tests.{eq-eqb, ne-eqb}
+use Rattle.codec.specs.Every.{every, total, blank}
+
+pub every-none : (p : ℕ → Bool) → every 0 p ≡ true
+unfolding every
+every-none p = refl
+
+pub every-more : (n : ℕ) (p : ℕ → Bool) → every n p ≡ true → p n ≡ true → every (n + 1) p ≡ true
+unfolding every
+every-more n p h e = rw (add-one, h, e)
+
+pub every-fails : (n : ℕ) (p : ℕ → Bool) (i : ℕ) → i < n → p i ≡ false → every n p ≡ false
+unfolding every
+every-fails zero p i h e = absurd (omega arith)
+every-fails (suc n) p i h e =
+    ⊎-elim (λ (g : i ≡ n). rw (← g, e, and-false)) (λ (g : i < n). rw (every-fails n p i g e)) (eq-or-lt-of-le {n = i} {m = n} (omega arith))
+
+pub every-at : (n : ℕ) (p : ℕ → Bool) (i : ℕ) → every n p ≡ true → i < n → p i ≡ true
+every-at n p i h l = at (p i) refl
+  where
+    at : (b : Bool) → p i ≡ b → p i ≡ true
+    at true e = e
+    at false e = let z : true ≡ false = sym h ∙ every-fails n p i l e in absurd (true≢false z)
+
+pub total-append : (a b : List ℕ) → total (a ++ b) ≡ total a + total b
+unfolding total
+total-append [] b = omega arith
+total-append (x ∷ a) b = omega (arith, total-append a b)
+
+pub total-more : (l : List ℕ) (i : ℕ) → i < length l → total (take (i + 1) l) ≡ total (take i l) + getD l i 0
+unfolding total
+total-more l i h = rw (add-one, take-suc l i 0, total-append) (omega arith)
+
+pub total-zero : (l : List ℕ) → total l ≡ 0 → l ≡ blank (length l)
+unfolding total blank
+total-zero [] h = refl
+total-zero (x ∷ l) h = let e : x ≡ 0 = omega arith in rw (e, ← total-zero l (omega arith))
+
+pub zeros-total : (n : ℕ) → total (replicate n 0) ≡ 0
+unfolding total
+zeros-total zero = refl
+zeros-total (suc n) = omega (arith, zeros-total n)
+
+-- ---- zeros by `|`
+-- a is 0 exactly when b is
+abbrev pub Alike : ℕ → ℕ → Type 0
+Alike a b = (a ≡ 0 → b ≡ 0) × (b ≡ 0 → a ≡ 0)
+
+pub alike-or : (a t x : ℕ) → Alike a t → Alike (bitOr a x) (t + x)
+alike-or a t x h = (
+  λ (e : bitOr a x ≡ 0). let z : a ≡ 0 = omega (arith, or-add-and a x, and-le-l a x, and-le-r a x) in omega (arith, h .0 z, or-add-and a x, and-le-l a x, and-le-r a x),
+  λ (e : t + x ≡ 0). let z : a ≡ 0 = h .1 (omega arith) in omega (arith, or-add-and a x),
+)
+
+pub alike-eqb : (a b : ℕ) → Alike a b → eqb a 0 ≡ eqb b 0
+alike-eqb zero b h = sym (eq-eqb b 0 (h .0 refl))
+alike-eqb (suc a) zero h = absurd (let z : suc a ≡ 0 = h .1 refl in omega arith)
+alike-eqb (suc a) (suc b) h = rw (ne-eqb (suc a) 0 (λ (e : suc a ≡ 0). omega arith), ne-eqb (suc b) 0 (λ (e : suc b ≡ 0). omega arith))
+
+-- ---- more of `every` and `&&`
+pub both : (a b : Bool) → (a && b) ≡ true → (a ≡ true) × (b ≡ true)
+both true b h = (refl, h)
+both false b h = let z : _≡_ {A = ℕ} 0 1 = cc in absurd (omega arith)
+
+pub join : (a b : Bool) → a ≡ true → b ≡ true → (a && b) ≡ true
+join a b h g = rw (h, g)
+
+pub every-of : (n : ℕ) (p : ℕ → Bool) → ((i : ℕ) → i < n → p i ≡ true) → every n p ≡ true
+unfolding every
+every-of zero p h = refl
+every-of (suc n) p h = join (every n p) (p n) (every-of n p (λ (i : ℕ) (l : i < n). h i (omega arith))) (h n (omega arith))
+
+pub zeros-blank : (n : ℕ) → eqb (total (blank n)) 0 ≡ true
+unfolding blank
+zeros-blank n = eq-eqb _ _ (zeros-total n)

@@ -1,0 +1,29 @@
+-- Tests of every index below a bound, and of zero bytes. Assumes nothing.
+use Prim.Native.Nat.{ℕ, zero, suc, _+_}
+use mathlib.Core.List.{List, [], _∷_}
+use mathlib.Core.Bool.{Bool, true, false, _&&_, _||_}
+use lib.Dec.{eqb}
+use lib.ListN.{replicate}
+
+-- p holds of every number below n
+unfoldable pub every : ℕ → (ℕ → Bool) → Bool
+every zero p = true
+every (suc n) p = every n p && p n
+
+-- p holds of some number below n
+unfoldable pub some : ℕ → (ℕ → Bool) → Bool
+some zero p = false
+some (suc n) p = some n p || p n
+
+-- the sum of a list
+unfoldable pub total : List ℕ → ℕ
+total [] = 0
+total (x ∷ l) = x + total l
+
+-- every byte is 0
+abbrev pub allZero : List ℕ → Bool
+allZero l = eqb (total l) 0
+
+-- n zeros (shut: at a large n it must not be written out)
+unfoldable pub blank : ℕ → List ℕ
+blank n = replicate n 0

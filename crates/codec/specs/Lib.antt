@@ -1,0 +1,6 @@
+pub mod Num
+pub mod Splice
+pub mod Rows
+pub mod Every
+pub mod Put
+pub mod Check
