@@ -1,9 +1,11 @@
-// Little-endian numbers in slices of bytes.
+// Little-endian numbers in slices of bytes; runs of zeros; copies; the check of a block.
 ghost use mathlib.Core.Path.{_≡_};
 ghost use Prim.Native.Nat.{_+_, _<_, _≤_};
-ghost use lib.ListN.{length};
+ghost use lib.ListN.{length, take};
 ghost use Rattle.codec.specs.Splice.{splice};
 ghost use Rattle.codec.specs.Num.{bytesOf, numAt, numsAt, numsOf};
+ghost use Rattle.codec.specs.Every.{allZero, blank};
+ghost use Rattle.codec.specs.Check.{weighted, checkOf, sealed as Sealed, sealOf};
 
 fn wide16(x: u8) -> u16
     ensures { λ r. ⌜ (r ≡ x) × (r < 256) ⌝ }
@@ -88,4 +90,80 @@ pub fn put_row(d: &mut [u8], at: usize, c: [u16; 8])
         put16(d, at + 2 * i, c[i]);
         i += 1;
     }
+}
+
+// Every byte is 0. Joined by `|`, with no early exit, so that the loop is vectorised.
+pub fn zeros(s: &[u8]) -> bool
+    ensures { λ r. ⌜ r ≡ allZero (now (s .entry)) ⌝ }
+{
+    let mut acc: u8 = 0;
+    let mut i = 0;
+    while i < s.len() {
+        acc = acc | s[i];
+        i += 1;
+    }
+    acc == 0
+}
+
+// Zeros in every place.
+pub fn clear(d: &mut [u8])
+    ensures { λ _. ⌜ now (d .exit) ≡ blank (length (now (d .entry))) ⌝ }
+{
+    let mut i = 0;
+    while i < d.len() {
+        d[i] = 0;
+        i += 1;
+    }
+}
+
+// A copy of `s` in the first places of `d`; the rest is left.
+pub fn copy(d: &mut [u8], s: &[u8])
+    requires { ⌜ length (now s) ≤ length (now d) ⌝ }
+    ensures { λ _. ⌜ now (d .exit) ≡ splice (now (d .entry)) 0 (now (s .entry)) ⌝ }
+{
+    let mut i = 0;
+    while i < s.len() {
+        d[i] = s[i];
+        i += 1;
+    }
+}
+
+// The sum of the first 510 bytes, each times its place from 1: at most 510 times 255 times 510, so that 32 bits hold it.
+fn weigh(s: &[u8]) -> u32
+    requires { ⌜ 510 ≤ length (now s) ⌝ }
+    ensures { λ r. ⌜ (r ≡ weighted 1 (take 510 (now (s .entry)))) × (r ≤ 66325500) ⌝ }
+{
+    let mut sum: u32 = 0;
+    let mut i: u32 = 0;
+    while i < 510 {
+        let at = i as usize;
+        sum += (i + 1) * wide32(s[at]);
+        i += 1;
+    }
+    sum
+}
+
+// The check of a block, of its first 510 bytes.
+pub fn check(s: &[u8]) -> u16
+    requires { ⌜ 510 ≤ length (now s) ⌝ }
+    ensures { λ r. ⌜ r ≡ checkOf (now (s .entry)) ⌝ }
+{
+    ((1 + weigh(s)) % 65521) as u16
+}
+
+// A block's last two bytes hold the check of those before.
+pub fn sealed(s: &[u8]) -> bool
+    requires { ⌜ length (now s) ≡ 512 ⌝ }
+    ensures { λ r. ⌜ r ≡ Sealed (now (s .entry)) ⌝ }
+{
+    get16(s, 510) == check(s)
+}
+
+// Writes the check into a block's last two bytes.
+pub fn seal(d: &mut [u8])
+    requires { ⌜ length (now d) ≡ 512 ⌝ }
+    ensures { λ _. ⌜ now (d .exit) ≡ sealOf (take 510 (now (d .entry))) ⌝ }
+{
+    let sum = check(d);
+    put16(d, 510, sum);
 }
