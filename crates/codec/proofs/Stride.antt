@@ -4,13 +4,14 @@ use mathlib.Core.Path.{_≡_, refl, _∙_, sym, ap}
 use mathlib.Core.List.{List, [], _∷_, _++_, append-assoc, append-nil}
 use native.Mathlib.Omega.{arith}
 use mathlib.Core.Logic.{⊎-elim}
+use native.Mathlib.Numerals.{add-one}
 use native.Mathlib.Nat.{zero-mul, suc-mul, add-zero, eq-or-lt-of-le}
 use lib.ListN.{length, take, drop, set, getD, length-append, length-take, length-drop, List·getD-append}
-use lib.Seq.{take-at, drop-at, take-add, drop-drop, getD-at, ext-getD}
+use lib.Seq.{take-at, drop-at, take-add, drop-drop, getD-at, ext-getD, set-split}
 use Rattle.codec.specs.Splice.{splice}
 use Rattle.codec.specs.Rows.{rows, upto}
 use Rattle.codec.specs.Num.{AreBytes}
-use Rattle.codec.proofs.SpliceLaws.{drop-past}
+use Rattle.codec.proofs.SpliceLaws.{drop-past, splice-length, splice-more}
 use Rattle.codec.proofs.Fronts.{bytes-take, bytes-drop}
 
 module _ {A : Type 0} (f : A → List ℕ) (w : ℕ) (sized : (a : A) → length (f a) ≡ w) where
@@ -101,3 +102,16 @@ pub upto-is : {A : Type 0} (n : ℕ) (g : ℕ → A) (xs : List A) (d : A) → l
 upto-is n g xs d e h =
     ext-getD d (upto n g) xs (upto-length n g ∙ sym e)
     (λ (i : ℕ) (l : i < length (upto n g)). let k : i < n = omega (arith, upto-length n g) in upto-at n g i d k ∙ h i k)
+
+pub upto-none : {A : Type 0} (g : ℕ → A) → upto 0 g ≡ []
+unfolding upto
+upto-none g = refl
+
+-- a turn of a loop that writes g 0, g 1, .. from `at` on
+pub made-turn : (d₀ d : List ℕ) (g : ℕ → ℕ) (at k : ℕ) → at + k < length d₀ → d ≡ splice d₀ at (upto k g) → set d (at + k) (g k) ≡ splice d₀ at (upto (k + 1) g)
+unfolding upto
+made-turn d₀ d g at k h e =
+    let n : length (upto k g) ≡ k = upto-length k g in
+    let m : length (splice d₀ at (upto k g)) ≡ length d₀ = splice-length d₀ at (upto k g) (omega arith) in
+    rw (e, add-one, set-split (splice d₀ at (upto k g)) (at + k) (g k) (omega arith), ← add-one (at + k))
+    (splice-more d₀ at (upto k g) (omega arith) (at + k) (g k ∷ []) (omega arith))

@@ -117,7 +117,7 @@ pub fn clear(d: &mut [u8])
 }
 
 // A copy of `s` in the first places of `d`; the rest is left.
-pub fn copy(d: &mut [u8], s: &[u8])
+fn copy(d: &mut [u8], s: &[u8])
     requires { ⌜ length (now s) ≤ length (now d) ⌝ }
     ensures { λ _. ⌜ now (d .exit) ≡ splice (now (d .entry)) 0 (now (s .entry)) ⌝ }
 {
@@ -126,6 +126,24 @@ pub fn copy(d: &mut [u8], s: &[u8])
         d[i] = s[i];
         i += 1;
     }
+}
+
+// n zeros from a place on.
+pub fn put_zeros(d: &mut [u8], at: usize, n: usize)
+    requires { ⌜ at + n ≤ length (now d) ⌝ }
+    ensures { λ _. ⌜ now (d .exit) ≡ splice (now (d .entry)) at (blank n) ⌝ }
+{
+    let end = at + n;
+    clear(&mut d[at..end]);
+}
+
+// A copy of `s` from a place on.
+pub fn put_bytes(d: &mut [u8], at: usize, s: &[u8])
+    requires { ⌜ at + length (now s) ≤ length (now d) ⌝ }
+    ensures { λ _. ⌜ now (d .exit) ≡ splice (now (d .entry)) at (now (s .entry)) ⌝ }
+{
+    let end = at + s.len();
+    copy(&mut d[at..end], s);
 }
 
 // The sum of the first 510 bytes, each times its place from 1: at most 510 times 255 times 510, so that 32 bits hold it.

@@ -1,0 +1,83 @@
+use Prim.Native.Nat.{_-_, _≤_}
+use mathlib.Core.Path.{_≡_, refl}
+use mathlib.Core.List.{[], append-nil, _++_}
+use native.Mathlib.Omega.{arith}
+use borrow.Author.Needs.{needs}
+use lib.ListN.{drop-of-length-le, length, take, drop}
+use lib.Seq.{take-all}
+use Rattle.codec.proofs.CopyLaws.{copy-turn}
+use Rattle.clock.proofs.MergeLaws.{merged-at, merged-length}
+use Rattle.clock.specs.Timestamp.{merged}
+use Rattle.clock.proofs.merge.Statement.{statement}
+use Rattle.clock.proofs.merge.Tie as tie
+
+abbrev Inv-loop : tie.InvT-loop
+Inv-loop a b r₀ i₀ r i = (i ≤ 8) × (r ≡ take i (merged a b) ++ drop i a)
+
+abbrev μ-loop : tie.MeasureT-loop
+μ-loop a b r₀ i₀ r i = 8 - i
+
+loop-holds : tie.Need-loop-holds Inv-loop μ-loop
+loop-holds c = (omega arith, refl)
+
+mul-larger : tie.Need-mul-larger Inv-loop μ-loop
+mul-larger c = search needs
+
+array-read-larger : tie.Need-array-read-larger Inv-loop μ-loop
+array-read-larger c = search needs
+
+mul-larger-2 : tie.Need-mul-larger-2 Inv-loop μ-loop
+mul-larger-2 c = search needs
+
+array-read-larger-2 : tie.Need-array-read-larger-2 Inv-loop μ-loop
+array-read-larger-2 c = search needs
+
+larger-requires : tie.Need-larger-requires Inv-loop μ-loop
+larger-requires c κs = search needs
+
+mul-r : tie.Need-mul-r Inv-loop μ-loop
+mul-r c = search needs
+
+array-write-r : tie.Need-array-write-r Inv-loop μ-loop
+array-write-r c = search needs
+
+add-i : tie.Need-add-i Inv-loop μ-loop
+add-i c = search needs
+
+loop-less : tie.Need-loop-less Inv-loop μ-loop
+loop-less c = search needs
+
+loop-again : tie.Need-loop-again Inv-loop μ-loop
+loop-again c =
+    let a = c .before .before .before .args in
+    let l = c .before .before .loop in
+    let n : length (a .t1) ≡ 8 = omega arith in
+    (omega arith, rw (l .inv .1, c .larger .ensures, ← merged-at (a .t1) (a .t2) (l .i) (omega arith)) (copy-turn (a .t1) (merged (a .t1) (a .t2)) (l .i) (omega (arith, merged-length (a .t1) (a .t2))) (omega arith)))
+
+returns : tie.Need-returns Inv-loop μ-loop
+returns c =
+    let a = c .before .before .args in
+    let l = c .before .loop in
+    let e : l .i ≡ 8 = omega arith in
+    let t : take 8 (merged (a .t1) (a .t2)) ≡ merged (a .t1) (a .t2) = take-all 8 (merged (a .t1) (a .t2)) (omega (arith, merged-length (a .t1) (a .t2))) in
+    let d : drop 8 (a .t1) ≡ [] = drop-of-length-le (a .t1) {i = 8} (omega arith) in
+    rw (l .inv .1, e, t, d) (append-nil (merged (a .t1) (a .t2)))
+
+pub merge-spec : {M : Type 1} → statement M
+merge-spec =
+    tie.close
+    (tie.spec
+    Inv-loop
+    μ-loop
+    loop-holds
+    mul-larger
+    array-read-larger
+    mul-larger-2
+    array-read-larger-2
+    larger-requires
+    mul-r
+    array-write-r
+    add-i
+    loop-less
+    loop-again
+    returns)

@@ -1,0 +1,42 @@
+use Prim.Native.Nat.{ℕ, _+_, _-_}
+use mathlib.Core.Path.{_≡_, _∙_, ap}
+use mathlib.Core.List.{List}
+use native.Mathlib.Omega.{arith}
+use denote.Ref.{now}
+use lib.ListN.{length, take, drop, length-take, length-drop}
+use Rattle.codec.specs.Every.{blank}
+use Rattle.codec.proofs.BlankLaws.{blank-length}
+use Rattle.codec.proofs.SpliceLaws.{lent}
+use borrow.Author.Needs.{needs}
+use Rattle.codec.proofs.put_zeros.Statement.{statement}
+use Rattle.codec.proofs.put_zeros.Tie as tie
+
+add-end : tie.Need-add-end
+add-end c = search needs
+
+sub-clear : tie.Need-sub-clear
+sub-clear c = search needs
+
+part-clear-start : tie.Need-part-clear-start
+part-clear-start c = search needs
+
+part-clear-end : tie.Need-part-clear-end
+part-clear-end c = search needs
+
+clear-requires : tie.Need-clear-requires
+clear-requires c κs = search needs
+
+same-length : tie.Need-same-length
+same-length c = search needs
+
+returns : tie.Need-returns
+returns c =
+    let a = c .before .before .before .before .before .args in
+    let e : length (take (a .at + a .n - a .at) (drop (a .at) (now (a .d)))) ≡ a .n = simp (length-take, length-drop) (omega arith) in
+    let b : length (blank (a .n)) ≡ a .n = blank-length (a .n) in
+    lent (now (a .d)) (c .before .before .clear .last .0) (blank (a .n)) (a .at) (a .at + a .n) (c .before .before .clear .ensures ∙ ap blank e) (omega arith)
+
+pub put-zeros-spec : {M : Type 1} → statement M
+put-zeros-spec =
+    tie.close
+    (tie.spec add-end sub-clear part-clear-start part-clear-end clear-requires same-length returns)

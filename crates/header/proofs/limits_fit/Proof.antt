@@ -1,0 +1,64 @@
+use Prim.Native.Nat.{ℕ, _+_, _*_, _-_, _/_, _%_, _≤_, _<_}
+use mathlib.Core.Path.{_≡_, refl, _∙_, sym, ap}
+use native.Mathlib.Omega.{arith}
+use mathlib.Core.List.{[]}
+use mathlib.Core.Bool.{true}
+use lib.ListN.{getD}
+use borrow.Author.Needs.{needs}
+use borrow.Author.Tests.{not-true, not-false}
+use Rattle.codec.specs.Every.{every}
+use Rattle.codec.proofs.EveryLaws.{every-none, every-more, every-fails}
+use Rattle.header.specs.Header.{rowFits, limitsFit}
+use Rattle.header.proofs.limits_fit.Statement.{statement}
+use Rattle.header.proofs.limits_fit.Tie as tie
+
+abbrev Inv-loop : tie.InvT-loop
+Inv-loop limits i₀ i = (i ≤ 8) × (every i (λ (k : ℕ). rowFits (getD limits k [])) ≡ true)
+
+abbrev μ-loop : tie.MeasureT-loop
+μ-loop limits i₀ i = 8 - i
+
+loop-holds : tie.Need-loop-holds Inv-loop μ-loop
+loop-holds c = (omega arith, every-none _)
+
+mul-row : tie.Need-mul-row Inv-loop μ-loop
+mul-row c = omega arith
+
+array-copy-out-row : tie.Need-array-copy-out-row Inv-loop μ-loop
+array-copy-out-row c = omega arith
+
+row-fits-requires : tie.Need-row-fits-requires Inv-loop μ-loop
+row-fits-requires c κs = search needs
+
+returns : tie.Need-returns Inv-loop μ-loop
+unfolding limitsFit
+returns c = sym (every-fails 8 (λ (i : ℕ). rowFits (getD (c .before .before .before .before .before .args .t1) i [])) (c .before .before .before .before .loop .i) (omega arith) (sym (c .before .row-fits .ensures) ∙ not-true _ (c .if1 .taken)))
+
+add-i : tie.Need-add-i Inv-loop μ-loop
+add-i c = omega arith
+
+loop-less : tie.Need-loop-less Inv-loop μ-loop
+loop-less c = omega arith
+
+loop-again : tie.Need-loop-again Inv-loop μ-loop
+loop-again c = (omega arith, every-more _ _ (c .before .before .before .before .loop .inv .1) (sym (c .before .row-fits .ensures) ∙ not-false _ (c .if1 .left)))
+
+returns-2 : tie.Need-returns-2 Inv-loop μ-loop
+unfolding limitsFit
+returns-2 c = let e : c .before .loop .i ≡ 8 = omega arith in sym (rw e at (c .before .loop .inv .1))
+
+pub limits-fit-spec : {M : Type 1} → statement M
+limits-fit-spec =
+    tie.close
+    (tie.spec
+    Inv-loop
+    μ-loop
+    loop-holds
+    mul-row
+    array-copy-out-row
+    row-fits-requires
+    returns
+    add-i
+    loop-less
+    loop-again
+    returns-2)

@@ -1,0 +1,74 @@
+use Prim.Native.Nat.{ℕ, _+_, _*_, _-_, _/_, _%_, _≤_, _<_}
+use mathlib.Core.Path.{_≡_, refl, _∙_, sym, ap}
+use native.Mathlib.Omega.{arith}
+use mathlib.Core.List.{List, []}
+use denote.Ref.{now}
+use lib.ListN.{length, getD, length-set}
+use Rattle.codec.specs.Splice.{splice}
+use Rattle.codec.specs.Rows.{upto}
+use Rattle.codec.proofs.SpliceLaws.{splice-none}
+use Rattle.codec.proofs.Stride.{made-turn, upto-none}
+use Rattle.header.specs.Header.{tableOf}
+use Rattle.header.proofs.store_limits.Statement.{statement}
+use Rattle.header.proofs.store_limits.Tie as tie
+
+abbrev Inv-loop : tie.InvT-loop
+Inv-loop d₀ limits k₀ d k = (k ≤ 64) × (length d ≡ length d₀) × (d ≡ splice d₀ 32 (upto k (λ (m : ℕ). getD (getD limits (m / 8) []) (m % 8) 0)))
+
+abbrev μ-loop : tie.MeasureT-loop
+μ-loop d₀ limits k₀ d k = 64 - k
+
+loop-holds : tie.Need-loop-holds Inv-loop μ-loop
+loop-holds c = (omega arith, refl, sym (ap (λ (v : List ℕ). splice (now (c .args .d)) 32 v) (upto-none _) ∙ splice-none (now (c .args .d)) 32))
+
+mul-row : tie.Need-mul-row Inv-loop μ-loop
+mul-row c = omega arith
+
+array-copy-out-row : tie.Need-array-copy-out-row Inv-loop μ-loop
+array-copy-out-row c = omega arith
+
+array-read-d : tie.Need-array-read-d Inv-loop μ-loop
+array-read-d c = omega arith
+
+add-d : tie.Need-add-d Inv-loop μ-loop
+add-d c = omega arith
+
+slice-write-d : tie.Need-slice-write-d Inv-loop μ-loop
+slice-write-d c = omega arith
+
+add-k : tie.Need-add-k Inv-loop μ-loop
+add-k c = omega arith
+
+loop-less : tie.Need-loop-less Inv-loop μ-loop
+loop-less c = omega arith
+
+loop-again : tie.Need-loop-again Inv-loop μ-loop
+loop-again c =
+    let l = c .before .before .loop in
+    let a = c .before .before .before .args in
+    (omega arith, simp length-set (omega arith), made-turn (now (a .d)) (l .d) (λ (k : ℕ). getD (getD (a .t2) (k / 8) []) (k % 8) 0) 32 (l .k) (omega arith) (l .inv .2))
+
+same-length : tie.Need-same-length Inv-loop μ-loop
+same-length c = omega arith
+
+returns : tie.Need-returns Inv-loop μ-loop
+unfolding tableOf
+returns c = let e : c .before .loop .k ≡ 64 = omega arith in rw e at (c .before .loop .inv .2)
+
+pub store-limits-spec : {M : Type 1} → statement M
+store-limits-spec =
+    tie.close
+    (tie.spec
+    Inv-loop
+    μ-loop
+    loop-holds
+    mul-row
+    array-copy-out-row
+    array-read-d
+    add-d
+    slice-write-d
+    add-k
+    loop-less
+    loop-again
+    same-length
+    returns)

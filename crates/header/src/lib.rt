@@ -1,0 +1,193 @@
+// The header block of an archive: 512 bytes with the network's fields.
+ghost use mathlib.Core.Path.{_≡_};
+ghost use mathlib.Core.List.{[], _∷_};
+ghost use Prim.Native.Nat.{_≤_, _+_};
+ghost use lib.ListN.{length};
+ghost use Rattle.codec.specs.Splice.{splice};
+ghost use Rattle.header.specs.Header.{rowFits, limitsFit, headerFits, bytesAt, tableAt, tableOf, parseHeader, wellMadeHeader, imageHeader, writeHeader, readHeader, readLimits};
+
+// The fields of a header but for the limits, which stand beside it as an array of arrays.
+pub struct Header {
+    pub n: u8,
+    pub t: u16,
+    pub allowances: [u16; 8],
+}
+
+// A refusal's number, or 0 and the fields.
+pub struct HeaderRead {
+    pub refusal: u8,
+    pub header: Header,
+}
+
+fn row_fits(row: [u8; 8]) -> bool
+    ensures { λ r. ⌜ r ≡ rowFits row ⌝ }
+{
+    (row[0] <= 32)
+        & (row[1] <= 32)
+        & (row[2] <= 32)
+        & (row[3] <= 32)
+        & (row[4] <= 32)
+        & (row[5] <= 32)
+        & (row[6] <= 32)
+        & (row[7] <= 32)
+}
+
+// Every limit is at most 32.
+fn limits_fit(limits: [[u8; 8]; 8]) -> bool
+    ensures { λ r. ⌜ r ≡ limitsFit limits ⌝ }
+{
+    let mut i = 0;
+    while i < 8 {
+        let row = limits[i];
+        if !row_fits(row) {
+            return false;
+        }
+        i += 1;
+    }
+    true
+}
+
+// Every field is in its range.
+pub fn header_fits(h: Header, limits: [[u8; 8]; 8]) -> bool
+    ensures { λ r. ⌜ r ≡ headerFits h limits ⌝ }
+{
+    (1 <= h.n) & ((h.n <= 8) & ((1 <= h.t) & limits_fit(limits)))
+}
+
+fn bytes_at(s: &[u8], at: usize) -> [u8; 8]
+    requires { ⌜ at + 8 ≤ length (now s) ⌝ }
+    ensures { λ r. ⌜ r ≡ bytesAt 8 (now (s .entry)) at ⌝ }
+{
+    let b = at + 1;
+    let c = b + 1;
+    let d = c + 1;
+    let e = d + 1;
+    let f = e + 1;
+    let g = f + 1;
+    let h = g + 1;
+    [s[at], s[b], s[c], s[d], s[e], s[f], s[g], s[h]]
+}
+
+// The limits of a header block, row by row.
+pub fn load_limits(s: &[u8]) -> [[u8; 8]; 8]
+    requires { ⌜ length (now s) ≡ 512 ⌝ }
+    ensures { λ r. ⌜ r ≡ tableAt 8 (now (s .entry)) 32 ⌝ }
+{
+    let a = bytes_at(s, 32);
+    let b = bytes_at(s, 40);
+    let c = bytes_at(s, 48);
+    let d = bytes_at(s, 56);
+    let e = bytes_at(s, 64);
+    let f = bytes_at(s, 72);
+    let g = bytes_at(s, 80);
+    let h = bytes_at(s, 88);
+    [a, b, c, d, e, f, g, h]
+}
+
+// The other fields of a header block.
+pub fn load(s: &[u8]) -> Header
+    requires { ⌜ length (now s) ≡ 512 ⌝ }
+    ensures { λ r. ⌜ r ≡ parseHeader (now (s .entry)) ⌝ }
+{
+    let allowances = codec::get_row(s, 16);
+    Header {
+        n: s[1],
+        t: codec::get16(s, 2),
+        allowances,
+    }
+}
+
+// The bytes are a header block.
+pub fn well_made(s: &[u8]) -> bool
+    ensures { λ r. ⌜ r ≡ wellMadeHeader (now (s .entry)) ⌝ }
+{
+    if s.len() != 512 {
+        return false;
+    }
+    codec::sealed(s)
+        & ((s[0] == 1)
+            & (codec::zeros(&s[4..16])
+                & (codec::zeros(&s[96..510]) & header_fits(load(s), load_limits(s)))))
+}
+
+fn store_limits(d: &mut [u8], limits: [[u8; 8]; 8])
+    requires { ⌜ length (now d) ≡ 512 ⌝ }
+    ensures { λ _. ⌜ now (d .exit) ≡ splice (now (d .entry)) 32 (tableOf limits) ⌝ }
+{
+    let mut k = 0;
+    while k < 64 {
+        let i = k / 8;
+        let j = k % 8;
+        let row = limits[i];
+        d[32 + k] = row[j];
+        k += 1;
+    }
+}
+
+// Writes bytes 0 and 1: the kind of block, and n.
+fn store_front(d: &mut [u8], n: u8)
+    requires { ⌜ length (now d) ≡ 512 ⌝ }
+    ensures { λ _. ⌜ now (d .exit) ≡ splice (now (d .entry)) 0 (1 ∷ n ∷ []) ⌝ }
+{
+    d[0] = 1;
+    d[1] = n;
+}
+
+// Makes 512 bytes a header block.
+fn store(d: &mut [u8], h: Header, limits: [[u8; 8]; 8])
+    requires { ⌜ length (now d) ≡ 512 ⌝ }
+    ensures { λ _. ⌜ now (d .exit) ≡ imageHeader h limits ⌝ }
+{
+    let allowances = h.allowances;
+    store_front(d, h.n);
+    codec::put16(d, 2, h.t);
+    codec::put_zeros(d, 4, 12);
+    codec::put_row(d, 16, allowances);
+    store_limits(d, limits);
+    codec::put_zeros(d, 96, 414);
+    codec::seal(d);
+}
+
+// Writes a header block into the first 512 bytes of a buffer: 1, 11, or 0 when it is written.
+pub fn write(h: Header, limits: [[u8; 8]; 8], d: &mut [u8]) -> u8
+    ensures { λ r. ⌜ (r ≡ writeHeader h limits (now (d .entry)) .answer) × (now (d .exit) ≡ writeHeader h limits (now (d .entry)) .buffer) ⌝ }
+{
+    if !header_fits(h, limits) {
+        return 1;
+    }
+    if d.len() < 512 {
+        return 11;
+    }
+    store(&mut d[0..512], h, limits);
+    0
+}
+
+// The fields of a header block but for its limits, or 1.
+pub fn read(s: &[u8]) -> HeaderRead
+    ensures { λ r. ⌜ r ≡ readHeader (now (s .entry)) ⌝ }
+{
+    if !well_made(s) {
+        return HeaderRead {
+            refusal: 1,
+            header: Header {
+                n: 0,
+                t: 0,
+                allowances: [0u16; 8],
+            },
+        };
+    }
+    HeaderRead {
+        refusal: 0,
+        header: load(s),
+    }
+}
+
+// The limits of a header block; all 0 where the bytes are none.
+pub fn read_limits(s: &[u8]) -> [[u8; 8]; 8]
+    ensures { λ r. ⌜ r ≡ readLimits (now (s .entry)) ⌝ }
+{
+    if !well_made(s) {
+        return [[0u8; 8]; 8];
+    }
+    load_limits(s)
+}
