@@ -7,12 +7,12 @@ use mathlib.Core.Logic.{⊎-elim}
 use native.Mathlib.Omega.{arith}
 use native.Mathlib.Numerals.{add-one}
 use native.Mathlib.Nat.{eq-or-lt-of-le}
-use lib.ListN.{length, getD, take, drop, replicate}
+use lib.ListN.{length, getD, take, drop, replicate, length-take, length-drop}
 use lib.Seq.{take-suc}
 use lib.Dec.{eqb}
 use lib.Bits.{bitOr, or-add-and, and-le-l, and-le-r}
-use borrow.Author.Tests.{eq-eqb, ne-eqb}
-use Rattle.codec.specs.Every.{every, total, blank}
+use borrow.Author.Tests.{eq-eqb, ne-eqb, eqb-true}
+use Rattle.codec.specs.Every.{every, total, allZero, blank}
 
 pub every-none : (p : ℕ → Bool) → every 0 p ≡ true
 unfolding every
@@ -86,3 +86,15 @@ every-of (suc n) p h = join (every n p) (p n) (every-of n p (λ (i : ℕ) (l : i
 pub zeros-blank : (n : ℕ) → eqb (total (blank n)) 0 ≡ true
 unfolding blank
 zeros-blank n = eq-eqb _ _ (zeros-total n)
+
+-- a part that is all zeros is a run of zeros
+pub zero-part : (l : List ℕ) (k n : ℕ) → n + k ≤ length l → allZero (take k (drop n l)) ≡ true → take k (drop n l) ≡ blank k
+zero-part l k n h z =
+    let e : length (take k (drop n l)) ≡ k = simp (length-take, length-drop) (omega arith) in
+    total-zero (take k (drop n l)) (eqb-true _ 0 z) ∙ ap blank e
+
+-- two tests that agree below n
+pub every-same : (n : ℕ) (p q : ℕ → Bool) → ((i : ℕ) → i < n → p i ≡ q i) → every n p ≡ every n q
+unfolding every
+every-same zero p q h = refl
+every-same (suc n) p q h = rw (every-same n p q (λ (i : ℕ) (l : i < n). h i (omega arith)), h n (omega arith))

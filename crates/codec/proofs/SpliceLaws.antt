@@ -1,12 +1,12 @@
 -- Laws of splices. Assumes nothing.
-use Prim.Native.Nat.{ℕ, _+_, _-_, _≤_, _<_}
+use Prim.Native.Nat.{ℕ, zero, suc, _+_, _-_, _≤_, _<_}
 use mathlib.Core.Path.{_≡_, refl, _∙_, sym, ap}
 use mathlib.Core.List.{List, [], _∷_, _++_, append-assoc, append-nil}
 use native.Mathlib.Omega.{arith}
 use native.Mathlib.Numerals.{add-one}
-use native.Mathlib.Nat.{add-assoc, add-zero}
+use native.Mathlib.Nat.{add-assoc, add-zero, sub-zero, zero-sub, suc-sub-suc}
 use lib.ListN.{length, take, drop, set, length-append, length-take, length-drop, take-append-drop, drop-of-length-le}
-use lib.Seq.{set-split, take-at, drop-at, drop-drop, drop-append-add, length-take-le}
+use lib.Seq.{set-split, take-at, drop-at, drop-drop, drop-append-add, length-take-le, take-take, take-nil}
 use Rattle.codec.specs.Splice.{splice}
 
 -- what lies past the seam
@@ -72,3 +72,16 @@ written {l} {vs} {d} {n} w e = let z : length vs ≡ n = w .size in w .is ∙ sp
 -- a lent part that is back as vs
 pub lent : (l ys vs : List ℕ) (o e : ℕ) → ys ≡ vs → e - o ≡ length vs → take o l ++ (ys ++ drop (e - o) (drop o l)) ≡ splice l o vs
 lent l ys vs o e q h = rw (q, drop-drop, h)
+
+-- the front of what lies past a place, cut off further on
+pub drop-take : (k m : ℕ) (l : List ℕ) → drop k (take m l) ≡ take (m - k) (drop k l)
+drop-take zero m l = rw sub-zero
+drop-take (suc k) zero l = rw (zero-sub)
+drop-take (suc k) (suc m) [] = rw take-nil
+drop-take (suc k) (suc m) (x ∷ l) = rw suc-sub-suc (drop-take k m l)
+
+-- a part of a part
+pub part-part : (l : List ℕ) (w k m n : ℕ) → k + w ≤ m → take w (drop k (take m (drop n l))) ≡ take w (drop (n + k) l)
+part-part l w k m n h =
+    let e : w ≤ m - k = omega arith in
+    rw (drop-take, take-take w (m - k) (drop k (drop n l)), drop-drop)

@@ -4,3 +4,4 @@ pub mod Rows
 pub mod Every
 pub mod Put
 pub mod Check
+pub mod Written

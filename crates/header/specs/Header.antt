@@ -9,6 +9,7 @@ use Rattle.codec.specs.Splice.{splice}
 use Rattle.codec.specs.Rows.{upto}
 use Rattle.codec.specs.Every.{every, allZero, blank}
 use Rattle.codec.specs.Check.{sealed, sealOf}
+use Rattle.codec.specs.Written.{Written, refused, wrote}
 use Rattle.header.specs.declared.Header.{Header}
 use Rattle.header.specs.declared.HeaderRead.{HeaderRead}
 
@@ -44,9 +45,11 @@ abbrev pub parseHeader : List ℕ → Header
 parseHeader l = record { n = getD l 1 0; t = numAt 2 l 2; allowances = numsAt 2 8 l 16 }
 
 -- the block of a header: kind 1, n, t, the allowances from 16, the limits from 32, zeros elsewhere, the check
+unfoldable pub headerBody : Header → List (List ℕ) → List ℕ
+headerBody h m = (1 ∷ h .n ∷ []) ++ bytesOf 2 (h .t) ++ blank 12 ++ numsOf 2 8 (h .allowances) ++ tableOf m ++ blank 414
+
 unfoldable pub imageHeader : Header → List (List ℕ) → List ℕ
-imageHeader h m =
-    sealOf ((1 ∷ h .n ∷ []) ++ bytesOf 2 (h .t) ++ blank 12 ++ numsOf 2 8 (h .allowances) ++ tableOf m ++ blank 414)
+imageHeader h m = sealOf (headerBody h m)
 
 -- bytes that are a header block: length, check, kind, unnamed bytes and fields
 unfoldable pub wellMadeHeader : List ℕ → Bool
@@ -55,17 +58,12 @@ wellMadeHeader l =
     && (allZero (take 12 (drop 4 l)) && (allZero (take 414 (drop 96 l)) && headerFits (parseHeader l) (tableAt 8 l 32)))))
 
 -- ---- the calls
--- what a write answers (0, or a refusal's number), and the buffer afterwards
-pub record Written : Type 0 where
-  pub answer : ℕ
-  pub buffer : List ℕ
-
 -- fields out of range are 1, a buffer of under 512 bytes 11; the rest of a buffer is left
 unfoldable pub writeHeader : Header → List (List ℕ) → List ℕ → Written
 writeHeader h m d =
     cond (headerFits h m)
-    (cond (ltb (length d) 512) (record { answer = 11; buffer = d }) (record { answer = 0; buffer = splice d 0 (imageHeader h m) }))
-    (record { answer = 1; buffer = d })
+    (cond (ltb (length d) 512) (refused 11 d) (wrote (splice d 0 (imageHeader h m))))
+    (refused 1 d)
 
 unfoldable pub readHeader : List ℕ → HeaderRead
 readHeader l =

@@ -1,26 +1,24 @@
+use mathlib.Core.Path.{_≡_, refl, _∙_, sym, ap}
+use borrow.Author.Tests.{not-true, not-false}
+use Rattle.header.specs.Header.{readLimits}
+use Rattle.header.proofs.Laws.{well-made-length}
 use borrow.Author.Needs.{needs}
 use Rattle.header.proofs.read_limits.Statement.{statement}
 use Rattle.header.proofs.read_limits.Tie as tie
-use Rattle.header.proofs.read_limits.Reads as reads
-use Rattle.header.proofs.read_limits.Lts as lts
-use Rattle.header.proofs.load_limits.Reads as load-limits-reads
-use Rattle.header.proofs.well_made.Reads as well-made-reads
 
--- src/lib.rt:189:9
 well-made-requires : tie.Need-well-made-requires
 well-made-requires c κs = search needs
 
--- src/lib.rt:190:9
 returns : tie.Need-returns
-returns c = ?
+unfolding readLimits
+returns c = rw (sym (c .before .well-made .ensures) ∙ not-true _ (c .if1 .taken)) refl
 
--- src/lib.rt:192:5
 load-limits-requires : tie.Need-load-limits-requires
-load-limits-requires c κs = ?
+load-limits-requires c κs = well-made-length _ (sym (c .before .well-made .ensures) ∙ not-false _ (c .if1 .left))
 
--- src/lib.rt:186:1
 returns-2 : tie.Need-returns-2
-returns-2 c = ?
+unfolding readLimits
+returns-2 c = rw (sym (c .before .before .well-made .ensures) ∙ not-false _ (c .before .if1 .left)) (cc)
 
 pub read-limits-spec : {M : Type 1} → statement M
 read-limits-spec = tie.close (tie.spec well-made-requires returns load-limits-requires returns-2)

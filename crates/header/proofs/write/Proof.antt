@@ -1,46 +1,47 @@
+use Prim.Native.Nat.{ℕ, _+_, _*_, _-_, _≤_, _<_}
+use mathlib.Core.Path.{_≡_, refl, _∙_, sym, ap}
+use native.Mathlib.Omega.{arith}
+use denote.Ref.{now}
+use borrow.Author.Tests.{not-true, not-false, lt-ltb, le-ltb}
+use Rattle.codec.proofs.SpliceLaws.{lent}
+use Rattle.header.specs.Header.{imageHeader, writeHeader}
+use Rattle.header.proofs.Laws.{image-length}
 use borrow.Author.Needs.{needs}
 use Rattle.header.proofs.write.Statement.{statement}
 use Rattle.header.proofs.write.Tie as tie
-use Rattle.header.proofs.write.Reads as reads
-use Rattle.header.proofs.write.Lts as lts
-use Rattle.header.proofs.header_fits.Reads as header-fits-reads
-use Rattle.header.proofs.store.Reads as store-reads
 
--- src/lib.rt:155:9
 header-fits-requires : tie.Need-header-fits-requires
 header-fits-requires c κs = search needs
 
--- src/lib.rt:156:9
 returns : tie.Need-returns
-returns c = ?
+unfolding writeHeader
+returns c = rw (sym (c .before .header-fits .ensures) ∙ not-true _ (c .if1 .taken)) (refl, refl)
 
--- src/lib.rt:159:9
 returns-2 : tie.Need-returns-2
-returns-2 c = ?
+unfolding writeHeader
+returns-2 c = rw (sym (c .before .before .header-fits .ensures) ∙ not-false _ (c .before .if1 .left), lt-ltb _ 512 (c .if2 .taken)) (refl, refl)
 
--- src/lib.rt:161:11
 sub-store : tie.Need-sub-store
 sub-store c = search needs
 
--- src/lib.rt:161:11
 part-store-start : tie.Need-part-store-start
 part-store-start c = search needs
 
--- src/lib.rt:161:11
 part-store-end : tie.Need-part-store-end
 part-store-end c = search needs
 
--- src/lib.rt:161:5
 store-requires : tie.Need-store-requires
 store-requires c κs = search needs
 
--- src/lib.rt:152:1
 same-length : tie.Need-same-length
 same-length c = search needs
 
--- src/lib.rt:152:1
 returns-3 : tie.Need-returns-3
-returns-3 c = ?
+unfolding writeHeader
+returns-3 c =
+    let a = c .before .before .before .before .before .before .before .before .args in
+    rw (sym (c .before .before .before .before .before .before .header-fits .ensures) ∙ not-false _ (c .before .before .before .before .before .if1 .left), le-ltb _ 512 (c .before .before .before .before .if2 .left))
+    (refl, lent (now (a .d)) (c .before .before .store .last .0) (imageHeader (a .h) (a .limits)) 0 512 (c .before .before .store .ensures) (omega (arith, image-length (a .h) (a .limits))))
 
 pub write-spec : {M : Type 1} → statement M
 write-spec =

@@ -1,0 +1,77 @@
+use Prim.Native.Nat.{ℕ, _+_, _*_, _-_, _/_, _%_, _≤_, _<_}
+use mathlib.Core.Path.{_≡_, refl, _∙_, sym, ap}
+use native.Mathlib.Omega.{arith}
+use borrow.Author.Tests.{not-true, not-false, lt-ltb, le-ltb, eq-eqb, ne-eqb}
+use denote.Ref.{now}
+use mathlib.Core.List.{List}
+use Rattle.codec.specs.Splice.{splice}
+use Rattle.entries.specs.Entries.{recordOf, readRecord}
+use Rattle.entries.proofs.Laws.{start-is, well-made-length, well-made-count}
+use borrow.Author.Needs.{needs}
+use Rattle.entries.proofs.read_record.Statement.{statement}
+use Rattle.entries.proofs.read_record.Tie as tie
+
+well-made-requires : tie.Need-well-made-requires
+well-made-requires c κs = search needs
+
+returns : tie.Need-returns
+unfolding readRecord
+returns c = rw (sym (c .before .well-made .ensures) ∙ not-true _ (c .if1 .taken)) (refl, refl)
+
+count-of-requires : tie.Need-count-of-requires
+count-of-requires c κs = well-made-length _ (sym (c .before .well-made .ensures) ∙ not-false _ (c .if1 .left))
+
+returns-2 : tie.Need-returns-2
+unfolding readRecord
+returns-2 c = rw (sym (c .before .before .before .well-made .ensures) ∙ not-false _ (c .before .before .if1 .left), ← c .before .count-of .ensures, le-ltb _ _ (c .if2 .taken)) (refl, refl)
+
+returns-3 : tie.Need-returns-3
+unfolding readRecord
+returns-3 c = rw (sym (c .before .before .before .before .well-made .ensures) ∙ not-false _ (c .before .before .before .if1 .left), ← c .before .before .count-of .ensures, lt-ltb _ _ (c .before .if2 .left), lt-ltb _ 32 (c .if3 .taken)) (refl, refl)
+
+start-of-requires : tie.Need-start-of-requires
+start-of-requires c κs = let p = well-made-count (now (c .before .before .before .before .before .before .before .args .s)) (sym (c .before .before .before .before .well-made .ensures) ∙ not-false _ (c .before .before .before .if1 .left)) in omega (arith, c .before .before .count-of .ensures)
+
+add-e : tie.Need-add-e
+add-e c = let p = well-made-count (now (c .before .before .before .before .before .before .before .before .args .s)) (sym (c .before .before .before .before .before .well-made .ensures) ∙ not-false _ (c .before .before .before .before .if1 .left)) in omega (arith, c .before .before .before .count-of .ensures, start-is (c .before .before .before .before .before .before .before .before .args .k) (omega (arith, c .before .before .before .count-of .ensures)), c .start-of .ensures)
+
+sub-put-bytes : tie.Need-sub-put-bytes
+sub-put-bytes c = search needs
+
+part-put-bytes-start : tie.Need-part-put-bytes-start
+part-put-bytes-start c = search needs
+
+part-put-bytes-end : tie.Need-part-put-bytes-end
+part-put-bytes-end c = let p = well-made-count (now (c .before .before .before .before .before .before .before .before .before .args .s)) (sym (c .before .before .before .before .before .before .well-made .ensures) ∙ not-false _ (c .before .before .before .before .before .if1 .left)) in let n = well-made-length (now (c .before .before .before .before .before .before .before .before .before .args .s)) (sym (c .before .before .before .before .before .before .well-made .ensures) ∙ not-false _ (c .before .before .before .before .before .if1 .left)) in omega (arith, c .before .before .before .before .count-of .ensures, start-is (c .before .before .before .before .before .before .before .before .before .args .k) (omega (arith, c .before .before .before .before .count-of .ensures)), c .before .start-of .ensures)
+
+put-bytes-requires : tie.Need-put-bytes-requires
+put-bytes-requires c κs = search needs
+
+same-length : tie.Need-same-length
+same-length c = search needs
+
+returns-4 : tie.Need-returns-4
+unfolding readRecord recordOf
+returns-4 c =
+    let a = c .before .before .before .before .before .before .before .before .before .before .before .before .before .args in
+    let e : c .before .before .before .before .before .start-of .result + 32 - c .before .before .before .before .before .start-of .result ≡ 32 = omega arith in
+    rw (sym (c .before .before .before .before .before .before .before .before .before .before .well-made .ensures) ∙ not-false _ (c .before .before .before .before .before .before .before .before .before .if1 .left), ← c .before .before .before .before .before .before .before .before .count-of .ensures, lt-ltb _ _ (c .before .before .before .before .before .before .before .if2 .left), le-ltb _ 32 (c .before .before .before .before .before .before .if3 .left))
+    (refl, rw (← c .before .before .before .before .before .start-of .ensures) (rw e at (c .before .before .put-bytes .ensures)))
+
+pub read-record-spec : {M : Type 1} → statement M
+read-record-spec =
+    tie.close
+    (tie.spec
+    well-made-requires
+    returns
+    count-of-requires
+    returns-2
+    returns-3
+    start-of-requires
+    add-e
+    sub-put-bytes
+    part-put-bytes-start
+    part-put-bytes-end
+    put-bytes-requires
+    same-length
+    returns-4)

@@ -1,0 +1,30 @@
+// The verdict on two 32-byte records.
+ghost use mathlib.Core.Path.{_≡_};
+ghost use Rattle.verdict.specs.Compare.{verdictOn};
+use clock::Verdict;
+
+// A verdict, or a refusal's number.
+pub enum Compared {
+    Ordered(Verdict),
+    Refused(u8),
+}
+
+// How the first event stands to the second, by timestamp order: 1, then 10, or the verdict.
+pub fn compare(first: &[u8], second: &[u8]) -> Compared
+    ensures { λ r. ⌜ r ≡ verdictOn (now (first .entry)) (now (second .entry)) ⌝ }
+{
+    if !record::well_made(first) {
+        return Compared::Refused(1);
+    }
+    if !record::well_made(second) {
+        return Compared::Refused(1);
+    }
+    let a = record::load(first);
+    let b = record::load(second);
+    if a.phase != b.phase {
+        return Compared::Refused(10);
+    }
+    let v = a.counts;
+    let w = b.counts;
+    Compared::Ordered(clock::compare(v, w))
+}
