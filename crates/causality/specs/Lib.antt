@@ -1,0 +1,6 @@
+pub mod Plain
+pub mod HappenedBefore
+pub mod Sound
+pub mod SoundLaws
+pub mod Tables
+pub mod Worked

@@ -1,0 +1,15 @@
+pub mod Reach
+pub mod Config
+pub mod Clock
+pub mod State
+pub mod Steps
+pub mod Network
+pub mod WellFormed
+pub mod Progress
+pub mod Worked
+pub mod WorkedStates
+pub mod Views
+pub mod TurnLaws
+pub mod StepLaws
+pub mod ReachLaws
+pub mod ConfigLaws

@@ -1,0 +1,196 @@
+-- Headers, and lent states that no list of steps from an initial network reaches, worked by the definitions: what each rule and each clause turns away,
+-- and the refusals 8 and 9. Assumes nothing.
+use Prim.Native.Nat.{ℕ}
+use mathlib.Core.Path.{_≡_, refl}
+use mathlib.Core.List.{List, [], _∷_, _++_}
+use mathlib.Core.Bool.{Bool, true, false}
+use lib.ListN.{replicate}
+use Rattle.codec.specs.Every.{every}
+use Rattle.clock.specs.Timestamp.{zeros}
+use Rattle.reset.specs.Reach.{limit, linked, apart, joins, first, unseen, spreadBy, everyReached}
+use Rattle.reset.specs.Config.{Config, isStation, neighbours, limitAt, allowanceAt, places, allowancesFit, limitsFit, wellMade, zeroDiagonal, linkedBothWays, nothingAbove, sum, withinCeiling, networkRules}
+use Rattle.reset.specs.Clock.{vector}
+use Rattle.reset.specs.State.{Mode, normal, mute, standBy, Item, message, resetReq, resetDone, Station, State, noneSeen, stationAt, linkAt, setStation, setLink}
+use Rattle.reset.specs.Steps.{Step, enter, send, recv, start}
+use Rattle.reset.specs.Network.{initial, run, quiescent}
+use Rattle.reset.specs.WellFormed.{countsFit, sentFits, marksFit, stationFits, linkFits, shapeFits, wellFormed}
+use Rattle.reset.specs.Worked.{net, allow, limitTo, link, Line, entryLine, modeLine, noLine, linesFrom, lines, pair, listing, lone, strict, middle}
+
+-- ---- headers
+-- the five network rules, in document 01's order
+unfoldable pub kept : Config → List Bool
+unfolding every limit linked apart joins first unseen spreadBy everyReached zeroDiagonal linkedBothWays nothingAbove sum withinCeiling networkRules allowancesFit limitsFit wellMade
+kept c =
+    zeroDiagonal (c .limits)
+    ∷ linkedBothWays (c .limits)
+    ∷ nothingAbove (c .n) (c .allowances) (c .limits)
+    ∷ everyReached (c .n) (c .limits)
+    ∷ withinCeiling (c .t) (c .allowances) (c .limits)
+    ∷ []
+
+-- the listing's network with another n and t
+abbrev sized : ℕ → ℕ → Config
+sized n t = record { n = n; t = t; allowances = pair .allowances; limits = pair .limits }
+
+-- eight stations, linked 0 7 3 5 1 6 2 4
+abbrev winding : Config
+winding = link 2 4 1 (link 6 2 1 (link 1 6 1 (link 5 1 1 (link 3 5 1 (link 7 3 1 (link 0 7 1 (net 8 4)))))))
+
+pub record Headers : Type 0 where
+  -- accepted
+  pub listing-accepted : (wellMade pair ≡ true) × (networkRules pair ≡ true)
+  pub lone-accepted : (wellMade lone ≡ true) × (networkRules lone ≡ true)
+  pub strict-accepted : (wellMade strict ≡ true) × (networkRules strict ≡ true)
+  pub middle-accepted : (wellMade middle ≡ true) × (networkRules middle ≡ true)
+  pub winding-accepted : (wellMade winding ≡ true) × (networkRules winding ≡ true)
+  -- well made, and one rule broken: 3
+  pub ceiling-six : (wellMade (sized 2 6) ≡ true) × (networkRules (sized 2 6) ≡ false) × (kept (sized 2 6) ≡ true ∷ true ∷ true ∷ true ∷ false ∷ [])
+  pub diagonal : kept (limitTo 1 1 1 (net 2 7)) ≡ false ∷ true ∷ true ∷ false ∷ true ∷ []
+  pub one-way : kept (limitTo 0 1 1 (net 2 7)) ≡ true ∷ false ∷ true ∷ true ∷ true ∷ []
+  pub allowance-above : kept (allow 1 1 (net 1 7)) ≡ true ∷ true ∷ false ∷ true ∷ true ∷ []
+  pub limit-above : kept (link 0 1 1 (net 1 7)) ≡ true ∷ true ∷ false ∷ true ∷ true ∷ []
+  pub not-reached : kept (link 2 3 1 (link 0 1 1 (net 4 7))) ≡ true ∷ true ∷ true ∷ false ∷ true ∷ []
+  -- a wrong field: 1
+  pub wrong-n : (wellMade (sized 0 7) ≡ false) × (wellMade (sized 9 7) ≡ false)
+  pub wrong-t : (wellMade (sized 2 0) ≡ false) × (wellMade (sized 2 65536) ≡ false) × (wellMade (sized 2 65535) ≡ true)
+  pub wrong-limit : (wellMade (link 0 1 33 pair) ≡ false) × (wellMade (link 0 1 32 pair) ≡ true)
+  pub wrong-allowance : (wellMade (allow 0 65536 pair) ≡ false) × (wellMade (allow 0 65535 pair) ≡ true)
+  pub wrong-length : (wellMade (allow 8 0 pair) ≡ false) × (wellMade (limitTo 8 0 0 pair) ≡ false) × (wellMade (limitTo 0 8 0 pair) ≡ false)
+
+pub headers : Headers
+unfolding kept
+headers =
+    record {
+      listing-accepted = (refl, refl);
+      lone-accepted = (refl, refl);
+      strict-accepted = (refl, refl);
+      middle-accepted = (refl, refl);
+      winding-accepted = (refl, refl);
+      ceiling-six = (refl, refl, refl);
+      diagonal = refl;
+      one-way = refl;
+      allowance-above = refl;
+      limit-above = refl;
+      not-reached = refl;
+      wrong-n = (refl, refl);
+      wrong-t = (refl, refl, refl);
+      wrong-limit = (refl, refl);
+      wrong-allowance = (refl, refl);
+      wrong-length = (refl, refl, refl);
+    }
+
+-- ---- states of the listing's network, as an area may hold them
+-- eight of them: a, b and six times d
+abbrev pub two : {A : Type 0} → A → A → A → List A
+two d a b = a ∷ b ∷ replicate 6 d
+
+-- a record of station 0: its counts for itself and for 1, mode, phase, own entries, messages sent to 1, req and done seen from 1
+abbrev held : ℕ → ℕ → Mode → ℕ → ℕ → ℕ → Bool → Bool → Station vector
+held a b m p e f q d =
+    record { time = two 0 a b; mode = m; phase = p; own = e; sent = two 0 0 f; reqs = two false false q; dones = two false false d }
+
+-- one with these counts, and nothing else
+abbrev counting : List ℕ → Station vector
+counting v = record { time = v; mode = normal; phase = 0; own = 0; sent = zeros; reqs = noneSeen; dones = noneSeen }
+
+-- the initial state with that record, and with q on the link from i to j
+abbrev with : Station vector → State vector
+with x = setStation (initial vector pair) 0 x
+
+abbrev on : ℕ → ℕ → List (Item vector) → State vector → State vector
+on i j q s = setLink s i j q
+
+-- n messages that bear a and b
+abbrev notes : ℕ → ℕ → ℕ → List (Item vector)
+notes n a b = replicate n (message (two 0 a b) 4294967295)
+
+-- unfolds all that the test and a step compute with
+unfoldable pub formed : State vector → Bool
+unfolding kept linesFrom countsFit sentFits marksFit stationFits linkFits shapeFits wellFormed quiescent
+formed s = wellFormed pair s
+
+pub record States : Type 0 where
+  -- well formed: the initial state, the one after the listing, and the greatest of each number
+  pub initial-formed : formed (initial vector pair) ≡ true
+  pub listing-formed : formed (run pair (initial vector pair) listing) ≡ true
+  pub greatest : formed (on 0 1 (notes 4 7 7) (on 1 0 (resetReq ∷ resetDone ∷ notes 2 0 7) (with (held 7 7 standBy 999999 3 2 true true)))) ≡ true
+  -- a count above t; of a station n or above; nine counts
+  pub wrong-count : (formed (with (held 8 0 normal 0 0 0 false true)) ≡ false)
+      × (formed (with (counting (0 ∷ 0 ∷ 1 ∷ replicate 5 0))) ≡ false)
+      × (formed (with (counting (replicate 9 0))) ≡ false)
+      × (formed (with (counting (replicate 8 0))) ≡ true)
+  pub wrong-phase : formed (with (held 0 0 normal 1000000 0 0 false true)) ≡ false
+  -- own entries above the allowance, messages sent above the limit
+  pub wrong-own : formed (with (held 0 0 normal 0 4 0 false true)) ≡ false
+  pub wrong-sent : formed (with (held 0 0 normal 0 0 3 false true)) ≡ false
+  -- sent, req seen or done seen of a non-neighbour: station 0 itself
+  pub wrong-peer : (formed (with (record { time = zeros; mode = normal; phase = 0; own = 0; sent = two 0 1 0; reqs = noneSeen; dones = noneSeen })) ≡ false)
+      × (formed (with (record { time = zeros; mode = normal; phase = 0; own = 0; sent = zeros; reqs = two false true false; dones = noneSeen })) ≡ false)
+      × (formed (with (record { time = zeros; mode = normal; phase = 0; own = 0; sent = zeros; reqs = noneSeen; dones = two false true false })) ≡ false)
+  -- a station of n or above holds nothing
+  pub nobody : (formed (setStation (initial vector pair) 2 (held 0 0 mute 0 0 0 false false)) ≡ false)
+      × (formed (setStation (initial vector pair) 7 (held 0 0 normal 1 0 0 false false)) ≡ false)
+      × (formed (setStation (initial vector pair) 2 (held 1 0 normal 0 0 0 false false)) ≡ false)
+      × (formed (setStation (initial vector pair) 8 (held 0 0 normal 0 0 0 false false)) ≡ false)
+  -- a link with more items than places; with one where there is no link; a message's count or register number out of range
+  pub wrong-link : (formed (on 0 1 (notes 5 0 0) (initial vector pair)) ≡ false) × (formed (on 0 0 (resetReq ∷ []) (initial vector pair)) ≡ false)
+  pub wrong-message : (formed (on 0 1 (notes 1 8 0) (initial vector pair)) ≡ false) × (formed (on 0 1 (message (0 ∷ two 0 0 1) 1 ∷ []) (initial vector pair)) ≡ false)
+      × (formed (on 0 1 (message (0 ∷ 0 ∷ 1 ∷ replicate 5 0) 1 ∷ []) (initial vector pair)) ≡ false) × (formed (on 0 1 (message zeros 4294967296 ∷ []) (initial vector pair)) ≡ false)
+  -- quiescent: all normal and in one phase
+  pub rests : (quiescent pair (initial vector pair) ≡ true) × (quiescent pair (run pair (initial vector pair) listing) ≡ true)
+      × (quiescent pair (with (held 0 0 normal 1 0 0 false true)) ≡ false) × (quiescent pair (with (held 0 0 mute 0 0 0 false true)) ≡ false)
+
+pub states : States
+unfolding formed
+states =
+    record {
+      initial-formed = refl;
+      listing-formed = refl;
+      greatest = refl;
+      wrong-count = (refl, refl, refl, refl);
+      wrong-phase = refl;
+      wrong-own = refl;
+      wrong-sent = refl;
+      wrong-peer = (refl, refl, refl);
+      nobody = (refl, refl, refl, refl);
+      wrong-link = (refl, refl);
+      wrong-message = (refl, refl, refl, refl);
+      rests = (refl, refl, refl, refl);
+    }
+
+-- ---- steps on such states, well formed each
+pub record LentSteps : Type 0 where
+  -- 8 in phase 999,999, and not before it; 5 comes before 8, and 8 before 9
+  pub start-at-last : linesFrom pair (with (held 0 0 normal 999999 0 0 false true)) (start 0 ∷ start 1 ∷ []) ≡ noLine 8 ∷ modeLine 0 1 mute ∷ []
+  pub start-before : linesFrom pair (with (held 0 0 normal 999998 0 0 false true)) (start 0 ∷ []) ≡ modeLine 999998 0 mute ∷ []
+  pub five-before-eight : linesFrom pair (with (held 0 0 standBy 999999 0 0 false true)) (start 0 ∷ []) ≡ noLine 5 ∷ []
+  pub eight-before-nine : linesFrom pair (on 0 1 (notes 4 0 0) (with (held 0 0 normal 999999 0 0 false true))) (start 0 ∷ []) ≡ noLine 8 ∷ []
+  -- 9 for a phase, a count or an item beyond its bound; 6 comes before 9; the state is left: the next step finds it so
+  pub phase-beyond : linesFrom pair (on 1 0 (resetReq ∷ []) (with (held 0 0 normal 999999 0 0 false true))) (recv 0 1 ∷ enter 0 1 ∷ []) ≡ noLine 9 ∷ entryLine 999999 0 (1 ∷ 0 ∷ []) ∷ []
+  pub count-beyond : linesFrom pair (on 1 0 (notes 1 0 0) (with (held 7 0 normal 0 2 1 false true))) (enter 0 1 ∷ send 0 1 1 ∷ recv 0 1 ∷ []) ≡ noLine 9 ∷ noLine 9 ∷ noLine 9 ∷ []
+  pub item-beyond : linesFrom pair (on 0 1 (notes 4 0 0) (with (held 0 0 normal 0 0 0 false true))) (send 0 1 1 ∷ start 0 ∷ recv 1 0 ∷ send 0 1 1 ∷ [])
+      ≡ noLine 9 ∷ noLine 9 ∷ entryLine 0 1 (0 ∷ 1 ∷ []) ∷ entryLine 0 0 (1 ∷ 0 ∷ []) ∷ []
+  pub six-before-nine : linesFrom pair (with (held 7 0 normal 0 3 2 false true)) (enter 0 1 ∷ send 0 1 1 ∷ []) ≡ noLine 6 ∷ noLine 6 ∷ []
+  -- a receipt raises each other count to the greater, and the own count by 1 whatever the message bears
+  pub own-count : linesFrom pair (on 1 0 (notes 1 5 3) (with (held 2 1 normal 0 0 0 false true))) (recv 0 1 ∷ []) ≡ entryLine 0 0 (3 ∷ 3 ∷ []) ∷ []
+  pub others-greater : linesFrom pair (on 1 0 (notes 1 5 3) (with (held 2 4 normal 0 0 0 false true))) (recv 0 1 ∷ []) ≡ entryLine 0 0 (3 ∷ 4 ∷ []) ∷ []
+  -- three rules in a row, b, c and a: a reset at once, into the next phase's stand-by
+  pub three-in-a-row : linesFrom pair (on 1 0 (resetDone ∷ []) (with (held 1 0 standBy 4 1 0 true false))) (recv 0 1 ∷ recv 1 0 ∷ recv 1 0 ∷ recv 1 0 ∷ [])
+      ≡ modeLine 5 0 standBy ∷ modeLine 1 1 standBy ∷ modeLine 1 1 normal ∷ noLine 7 ∷ []
+
+pub lent-steps : LentSteps
+unfolding linesFrom
+lent-steps =
+    record {
+      start-at-last = refl;
+      start-before = refl;
+      five-before-eight = refl;
+      eight-before-nine = refl;
+      phase-beyond = refl;
+      count-beyond = refl;
+      item-beyond = refl;
+      six-before-nine = refl;
+      own-count = refl;
+      others-greater = refl;
+      three-in-a-row = refl;
+    }
