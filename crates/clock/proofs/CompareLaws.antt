@@ -12,7 +12,7 @@ use borrow.Author.Tests.{leb-true, le-leb}
 use Rattle.codec.specs.Every.{every}
 use Rattle.codec.proofs.EveryLaws.{every-at, every-of}
 use Rattle.codec.proofs.FlagLaws.{every-turn, every-both, eqb-both, leb-not-ltb, not-or}
-use Rattle.clock.specs.Order.{sameAt, noGreaterAt, sameCounts, noGreater, allWithin, verdictOf, byFlags}
+use Rattle.clock.specs.Order.{sameAt, noGreaterAt, sameCounts, noGreater, verdictOf, byFlags}
 
 -- a turn: some count so far is less, or the next one is
 pub less-turn : (v w : List ℕ) (i : ℕ) (less : Bool) → not less ≡ every i (noGreaterAt w v) → not (less || ltb (getD v i 0) (getD w i 0)) ≡ every (i + 1) (noGreaterAt w v)
@@ -48,7 +48,3 @@ counts-at-most v f s = (to, λ (h : (k : ℕ) → getD v k 0 ≤ f k). every-of 
 pub no-greater : (v w : List ℕ) → length v ≤ 8 → (noGreater v w ≡ true) ↔ ((k : ℕ) → getD v k 0 ≤ getD w k 0)
 unfolding noGreater
 no-greater v w s = counts-at-most v (λ (k : ℕ). getD w k 0) s
-
-pub all-within : (t : ℕ) (v : List ℕ) → length v ≤ 8 → (allWithin t v ≡ true) ↔ ((k : ℕ) → getD v k 0 ≤ t)
-unfolding allWithin
-all-within t v s = counts-at-most v (λ (k : ℕ). t) s

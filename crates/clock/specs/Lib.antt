@@ -1,2 +1,3 @@
 pub mod Timestamp
 pub mod Order
+pub mod Range

@@ -18,10 +18,6 @@ sameAt v w k = eqb (getD v k 0) (getD w k 0)
 abbrev pub noGreaterAt : List ℕ → List ℕ → ℕ → Bool
 noGreaterAt v w k = leb (getD v k 0) (getD w k 0)
 
--- count k of v is at most t
-abbrev pub withinAt : ℕ → List ℕ → ℕ → Bool
-withinAt t v k = leb (getD v k 0) t
-
 -- all eight counts are the same
 unfoldable pub sameCounts : List ℕ → List ℕ → Bool
 sameCounts v w = every 8 (sameAt v w)
@@ -29,10 +25,6 @@ sameCounts v w = every 8 (sameAt v w)
 -- none of v's eight counts is greater than w's
 unfoldable pub noGreater : List ℕ → List ℕ → Bool
 noGreater v w = every 8 (noGreaterAt v w)
-
--- all eight counts are at most t
-unfoldable pub allWithin : ℕ → List ℕ → Bool
-allWithin t v = every 8 (withinAt t v)
 
 -- the verdict on v and w
 unfoldable pub verdictOf : List ℕ → List ℕ → Verdict

@@ -3,7 +3,8 @@ ghost use mathlib.Core.Path.{_≡_};
 ghost use Prim.Native.Nat.{max, _<_};
 ghost use lib.ListN.{getD};
 ghost use Rattle.clock.specs.Timestamp.{tick, merged, raised};
-ghost use Rattle.clock.specs.Order.{allWithin, byFlags, verdictOf};
+ghost use Rattle.clock.specs.Order.{byFlags, verdictOf};
+ghost use Rattle.clock.specs.Range.{ceilingOf, countsFit};
 
 // How the first of two timestamps stands to the second. Unordered: concurrent.
 pub enum Verdict {
@@ -87,15 +88,23 @@ pub fn raise(a: [u16; 8], b: [u16; 8], i: usize) -> [u16; 8]
     r
 }
 
-// Every count is at most t.
-pub fn within(a: [u16; 8], t: u16) -> bool
-    ensures { λ r. ⌜ r ≡ allWithin t a ⌝ }
+// t for a station below n, else 0.
+fn ceiling(k: u8, n: u8, t: u16) -> u16
+    ensures { λ r. ⌜ r ≡ ceilingOf n t k ⌝ }
+{
+    if k < n { t } else { 0 }
+}
+
+// Every count is at most t, and 0 for stations n and above.
+pub fn counts_fit(a: [u16; 8], n: u8, t: u16) -> bool
+    ensures { λ r. ⌜ r ≡ countsFit n t a ⌝ }
 {
     let mut ok = true;
-    let mut i = 0;
-    while i < 8 {
-        ok = ok & (a[i] <= t);
-        i += 1;
+    let mut k: u8 = 0;
+    while k < 8 {
+        let i = k as usize;
+        ok = ok & (a[i] <= ceiling(k, n, t));
+        k += 1;
     }
     ok
 }

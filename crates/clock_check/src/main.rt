@@ -44,7 +44,7 @@ fn bound(a: [u16; 8], t: u16) {
     show(a);
     io::write_all(1, b" and ");
     io::print_decimal(1, wide(t));
-    if clock::within(a, t) {
+    if clock::counts_fit(a, 8, t) {
         io::write_all(1, b": yes\n");
     } else {
         io::write_all(1, b": no\n");

@@ -1,0 +1,64 @@
+use Prim.Native.Nat.{ℕ, _-_, _≤_}
+use mathlib.Core.Path.{_≡_, sym}
+use native.Mathlib.Omega.{arith}
+use borrow.Author.Needs.{needs}
+use lib.Dec.{leb}
+use lib.ListN.{getD}
+use Rattle.codec.proofs.EveryLaws.{every-none}
+use Rattle.codec.proofs.FlagLaws.{every-turn}
+use Rattle.codec.specs.Every.{every}
+use Rattle.clock.specs.Range.{ceilingOf, countsFit}
+use Rattle.clock.proofs.counts_fit.Statement.{statement}
+use Rattle.clock.proofs.counts_fit.Tie as tie
+
+abbrev Inv-loop : tie.InvT-loop
+Inv-loop n t a ok₀ k₀ ok k = (k ≤ 8) × (ok ≡ every k (λ (j : ℕ). leb (getD a j 0) (ceilingOf n t j)))
+
+abbrev μ-loop : tie.MeasureT-loop
+μ-loop n t a ok₀ k₀ ok k = 8 - k
+
+loop-holds : tie.Need-loop-holds Inv-loop μ-loop
+loop-holds c = (omega arith, sym (every-none _))
+
+cast-i : tie.Need-cast-i Inv-loop μ-loop
+cast-i c = omega arith
+
+mul-ok : tie.Need-mul-ok Inv-loop μ-loop
+mul-ok c = search needs
+
+array-read-ok : tie.Need-array-read-ok Inv-loop μ-loop
+array-read-ok c = search needs
+
+ceiling-requires : tie.Need-ceiling-requires Inv-loop μ-loop
+ceiling-requires c κs = search needs
+
+add-k : tie.Need-add-k Inv-loop μ-loop
+add-k c = omega arith
+
+loop-less : tie.Need-loop-less Inv-loop μ-loop
+loop-less c = omega arith
+
+loop-again : tie.Need-loop-again Inv-loop μ-loop
+loop-again c = (omega arith, rw (every-turn, c .before .before .loop .inv .1, c .ceiling .ensures))
+
+returns : tie.Need-returns Inv-loop μ-loop
+unfolding countsFit
+returns c =
+    let e : c .before .loop .k ≡ 8 = omega arith in
+    rw e at (c .before .loop .inv .1)
+
+pub counts-fit-spec : {M : Type 1} → statement M
+counts-fit-spec =
+    tie.close
+    (tie.spec
+    Inv-loop
+    μ-loop
+    loop-holds
+    cast-i
+    mul-ok
+    array-read-ok
+    ceiling-requires
+    add-k
+    loop-less
+    loop-again
+    returns)
