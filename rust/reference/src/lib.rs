@@ -1,0 +1,44 @@
+//! A second implementation of the specification (document 01), written
+//! straight from its text in plain Rust. It is meant to be compared with the
+//! proved library on many inputs, and shares no code and no definition with it.
+//!
+//! Names follow the standard terms of distributed systems: a *message* is the
+//! document's note, a *timestamp* its stamp, *happened-before* its recorded
+//! order, *begin reset* and the *reset rules* its begin and turning rules,
+//! *initial* its fresh, a *buffer* its lent area.
+//!
+//! | module | section of document 01 |
+//! |---|---|
+//! | [`refusal`] | 'State area and host', the table of numbers |
+//! | [`check`], [`header`], [`entries`], [`record`] | 'Archive blocks' |
+//! | [`order`] | 'Plain network and recorded order', timestamp order and verdicts |
+//! | [`archive`] | 'Archive blocks', archives, readers and lists |
+//! | [`network`] | 'The network', 'What a station holds', 'The steps', 'State area and host' |
+//! | [`causality`] | 'Plain network and recorded order', demand 3 |
+//! | [`turnover`] | 'turnover' |
+//! | [`random`], [`generate`] | none: inputs for tests and comparisons |
+
+#![forbid(unsafe_code)]
+#![warn(missing_docs)]
+
+pub mod archive;
+pub mod causality;
+pub mod check;
+pub mod entries;
+pub mod generate;
+pub mod header;
+pub mod network;
+pub mod order;
+pub mod random;
+pub mod record;
+pub mod refusal;
+pub mod turnover;
+
+/// Most stations that a network can have ('The network').
+pub const MAX_STATIONS: usize = 8;
+
+/// Eight counts, one for each station ('What a station holds').
+pub type Counts = [u16; MAX_STATIONS];
+
+/// The last phase: a phase is 0 to 999,999 ('What a station holds').
+pub const LAST_PHASE: u32 = 999_999;

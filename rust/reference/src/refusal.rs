@@ -1,0 +1,82 @@
+//! The causes of a refusal and their numbers: the table of 'State area and
+//! host' in document 01.
+
+use std::fmt;
+
+/// Why a call was refused.
+#[derive(Clone, Copy, Debug, PartialEq, Eq, Hash, PartialOrd, Ord)]
+pub enum Refusal {
+    /// 1: a block, record or archive of wrong length, check, field or spare byte.
+    Malformed,
+    /// 2: not a well-formed state.
+    IllFormedState,
+    /// 3: a well-made header breaks a network rule.
+    NetworkRule,
+    /// 4: a station that is n or above, or a peer that is not a neighbour.
+    NoSuchStationOrLink,
+    /// 5: the mode forbids the send or start.
+    ModeForbids,
+    /// 6: the allowance or the link limit is used up in this phase.
+    UsedUp,
+    /// 7: recv from an empty link.
+    EmptyLink,
+    /// 8: start in phase 999,999.
+    LastPhase,
+    /// 9: the state after would have an item, count or phase beyond its bound.
+    BeyondBound,
+    /// 10: verdict on records of different phases.
+    DifferentPhases,
+    /// 11: a list, write or read buffer too small, or an area of another length.
+    BufferLength,
+    /// 12: record number not in the block or archive; a write of 0 or over 15 records.
+    NoSuchRecord,
+}
+
+impl Refusal {
+    /// Every refusal, by rising number.
+    pub const ALL: [Refusal; 12] = [
+        Refusal::Malformed,
+        Refusal::IllFormedState,
+        Refusal::NetworkRule,
+        Refusal::NoSuchStationOrLink,
+        Refusal::ModeForbids,
+        Refusal::UsedUp,
+        Refusal::EmptyLink,
+        Refusal::LastPhase,
+        Refusal::BeyondBound,
+        Refusal::DifferentPhases,
+        Refusal::BufferLength,
+        Refusal::NoSuchRecord,
+    ];
+
+    /// The number of the table.
+    pub fn number(self) -> u8 {
+        match self {
+            Refusal::Malformed => 1,
+            Refusal::IllFormedState => 2,
+            Refusal::NetworkRule => 3,
+            Refusal::NoSuchStationOrLink => 4,
+            Refusal::ModeForbids => 5,
+            Refusal::UsedUp => 6,
+            Refusal::EmptyLink => 7,
+            Refusal::LastPhase => 8,
+            Refusal::BeyondBound => 9,
+            Refusal::DifferentPhases => 10,
+            Refusal::BufferLength => 11,
+            Refusal::NoSuchRecord => 12,
+        }
+    }
+
+    /// The refusal with a number of the table.
+    pub fn from_number(number: u8) -> Option<Refusal> {
+        Refusal::ALL.into_iter().find(|r| r.number() == number)
+    }
+}
+
+impl fmt::Display for Refusal {
+    fn fmt(&self, f: &mut fmt::Formatter<'_>) -> fmt::Result {
+        write!(f, "{}", self.number())
+    }
+}
+
+impl std::error::Error for Refusal {}
