@@ -13,3 +13,13 @@ pub mod TurnLaws
 pub mod StepLaws
 pub mod ReachLaws
 pub mod ConfigLaws
+pub mod Changes
+pub mod Flow
+pub mod Invariant
+pub mod Keeps
+pub mod Messages
+pub mod Summary
+pub mod Runs
+pub mod Coherent
+pub mod FormedParts
+pub mod Formed

@@ -27,6 +27,25 @@ every-none (suc n) r p q h e = rw (h n) (go (some n (λ j. r j && q j)) (r n) (e
     go false true f k = and-false (every n (λ j. not (r j) || p j))
     go false false f k = absurd (true≢false (sym k))
 
+-- ---- what was tested where a rule applies
+abbrev pub Tested : {K : Clock} → Config → ℕ → Station K → Rule → Type 0
+Tested c i x ruleA = (x .mode ≡ mute) × (everyNeighbour c i (reqSeen x) ≡ true)
+Tested c i x ruleB = (x .mode ≡ standBy) × (everyNeighbour c i (doneSeen x) ≡ true)
+Tested c i x ruleC = (x .mode ≡ normal) × (someNeighbour c i (reqSeen x) ≡ true)
+Tested c i x noRule = Unit {0}
+
+pub rule-tested : {K : Clock} (c : Config) (i : ℕ) (x : Station K) → Tested c i x (ruleOf c i x)
+rule-tested c i x = go (x .mode) (everyNeighbour c i (reqSeen x)) (everyNeighbour c i (doneSeen x)) (someNeighbour c i (reqSeen x)) refl refl refl refl
+  where
+    go : (m : Mode) (qa da qs : Bool) → x .mode ≡ m → everyNeighbour c i (reqSeen x) ≡ qa → everyNeighbour c i (doneSeen x) ≡ da
+        → someNeighbour c i (reqSeen x) ≡ qs → Tested c i x (ruleIn m qa da qs)
+    go mute true da qs e q d r = (e, q)
+    go mute false da qs e q d r = tt
+    go standBy qa true qs e q d r = (e, d)
+    go standBy qa false qs e q d r = tt
+    go normal qa da true e q d r = (e, r)
+    go normal qa da false e q d r = tt
+
 -- ---- what a rule does to the record of its station, and to others
 abbrev pub applied : {K : Clock} → Station K → Rule → Station K
 applied x ruleA = renewed x
@@ -87,19 +106,16 @@ module _ {K : Clock} (c : Config) (i : ℕ) where
   after-b x true h = rw h (after-c (woken x) _ refl h)
   after-b x false h = rw (h, h, h)
 
-  from : (x : Station K) (m : Mode) (qa da qs : Bool) → x .mode ≡ m → everyNeighbour c i (reqSeen x) ≡ qa → everyNeighbour c i (doneSeen x) ≡ da → someNeighbour c i (reqSeen x) ≡ qs
-      → ruleOf c i (next c i (next c i (applied x (ruleIn m qa da qs)))) ≡ noRule
-  from x mute true da qs e q d r = again (next c i (renewed x)) (after-a x _ refl)
-  from x mute false da qs e q d r = let h : ruleOf c i x ≡ noRule = rw (e, q) in again (next c i x) (again x h)
-  from x standBy qa true qs e q d r = after-b x _ refl
-  from x standBy qa false qs e q d r = let h : ruleOf c i x ≡ noRule = rw (e, d) in again (next c i x) (again x h)
-  from x normal qa da true e q d r = again (next c i (begun x)) (after-c x _ refl r)
-  from x normal qa da false e q d r = let h : ruleOf c i x ≡ noRule = rw (e, r) in again (next c i x) (again x h)
+  from : (x : Station K) (r : Rule) → ruleOf c i x ≡ r → Tested c i x r → ruleOf c i (next c i (next c i (applied x r))) ≡ noRule
+  from x ruleA h t = again (next c i (renewed x)) (after-a x _ refl)
+  from x ruleB h t = after-b x _ refl
+  from x ruleC h t = again (next c i (begun x)) (after-c x _ refl (t .1))
+  from x noRule h t = again (next c i x) (again x h)
 
   -- none is left
   pub no-rule-left : (s : State K) → ruleOf c i (stationAt (turn c i s) i) ≡ noRule
   unfolding turn
-  no-rule-left s = rw (station-turn-once, station-turn-once, station-turn-once) (from (stationAt s i) _ _ _ _ refl refl refl refl)
+  no-rule-left s = rw (station-turn-once, station-turn-once, station-turn-once) (from (stationAt s i) _ refl (rule-tested c i (stationAt s i)))
 
   -- so one more turn changes nothing
   pub turn-ends : (s : State K) → turnOnce c i (turn c i s) ≡ turn c i s

@@ -1,5 +1,5 @@
 -- What is read of a state after each change of it. Assumes nothing.
-use Prim.Native.Nat.{ℕ, zero, suc, _+_, _≤_, _<_}
+use Prim.Native.Nat.{ℕ, zero, suc, _≤_, _<_}
 use mathlib.Core.Path.{_≡_, refl, ap, _∙_}
 use mathlib.Core.Logic.{_≢_}
 use mathlib.Core.List.{List, [], _∷_, _++_}
@@ -7,29 +7,13 @@ use mathlib.Core.Bool.{Bool, true, false, cond}
 use native.Mathlib.Omega.{arith}
 use native.Mathlib.Decide.{ℕ-discrete}
 use lib.ListN.{getD, replicate}
-use Rattle.codec.specs.Put.{put}
+use Rattle.codec.proofs.PutLaws.{put-same, put-other}
 use Rattle.clock.specs.Timestamp.{zeros}
 use Rattle.reset.specs.Config.{Config, neighbours}
 use Rattle.reset.specs.Clock.{Clock}
 use Rattle.reset.specs.State.{Item, Station, State, noneSeen, blankStation, stationAt, linkAt, setStation, setLink, putOn, putLinked, putFirst, putOnAll}
 
 -- ---- lists
-pub put-same : {A : Type 0} (d : A) (l : List A) (i : ℕ) (b : A) → getD (put d l i b) i d ≡ b
-put-same d [] zero b = refl
-put-same d [] (suc n) b = put-same d [] n b
-put-same d (x ∷ l) zero b = refl
-put-same d (x ∷ l) (suc n) b = put-same d l n b
-
-pub put-other : {A : Type 0} (d : A) (l : List A) (i j : ℕ) (b : A) → j ≢ i → getD (put d l i b) j d ≡ getD l j d
-put-other d [] zero zero b h = absurd (h refl)
-put-other d [] zero (suc j) b h = refl
-put-other d [] (suc n) zero b h = refl
-put-other d [] (suc n) (suc j) b h = put-other d [] n j b (λ e. h (ap suc e))
-put-other d (x ∷ l) zero zero b h = absurd (h refl)
-put-other d (x ∷ l) zero (suc j) b h = refl
-put-other d (x ∷ l) (suc n) zero b h = refl
-put-other d (x ∷ l) (suc n) (suc j) b h = put-other d l n j b (λ e. h (ap suc e))
-
 pub all-same : {A : Type 0} (n : ℕ) (d : A) (i : ℕ) → getD (replicate n d) i d ≡ d
 all-same zero d i = refl
 all-same (suc n) d zero = refl
