@@ -1,7 +1,7 @@
 -- The plain network (document 01): the network without modes, limits and resets, and what of a list of steps it is fed for a phase. Assumes nothing.
 use Prim.Native.Nat.{ℕ}
 use mathlib.Core.List.{List, [], _∷_, _++_}
-use mathlib.Core.Bool.{Bool, cond, _&&_}
+use mathlib.Core.Bool.{cond, _&&_}
 use lib.Dec.{eqb}
 use Rattle.clock.specs.Timestamp.{zeros, tick, raised}
 use Rattle.reset.specs.Steps.{Step, enter, send, recv, start, Answer, refused, entry, modeAfter}

@@ -3,16 +3,16 @@ use Prim.Native.Nat.{ℕ, _<_}
 use mathlib.Core.Path.{_≡_}
 use mathlib.Core.Logic.{_↔_}
 use mathlib.Core.List.{List, [], _∷_}
-use mathlib.Core.Bool.{Bool, true, cond}
+use mathlib.Core.Bool.{true, cond}
 use lib.Dec.{eqb}
 use lib.ListN.{getD, length}
 use Rattle.clock.specs.Timestamp.{Less}
 use Rattle.reset.specs.Config.{Config, wellMade, networkRules}
 use Rattle.reset.specs.Clock.{vector}
 use Rattle.reset.specs.State.{Item, message, resetReq, resetDone, State, linkAt}
-use Rattle.reset.specs.Steps.{Step, enter, send, recv, start, Entry, Answer, refused, entry, modeAfter, step}
+use Rattle.reset.specs.Steps.{Step, enter, send, recv, start, Answer, refused, entry, modeAfter, step}
 use Rattle.reset.specs.Network.{initial, Answered, log}
-use Rattle.causality.specs.Plain.{Message, Plain, plainInitial, Told, told, plainTold, plainAfter, fed}
+use Rattle.causality.specs.Plain.{Message, plainInitial, Told, told, plainTold, plainAfter, fed}
 use Rattle.causality.specs.HappenedBefore.{Accepted, accepted, entryAt, phaseOf, timestampOf, isRecv, GoesWith, HappenedBefore}
 
 -- ---- the message that the network's own recv took: the first item of its link in the state before; none for another step

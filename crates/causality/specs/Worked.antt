@@ -3,8 +3,8 @@
 use Prim.Native.Nat.{ℕ}
 use mathlib.Core.Path.{_≡_, refl}
 use mathlib.Core.Logic.{_↔_}
-use mathlib.Core.List.{List, [], _∷_, _++_, map}
-use mathlib.Core.Bool.{Bool, true, false, not, _&&_, _||_}
+use mathlib.Core.List.{List, [], _∷_, map}
+use mathlib.Core.Bool.{Bool, false, not, _&&_, _||_}
 use lib.Dec.{eqb, leb}
 use lib.ListN.{getD, take, length, replicate}
 use Rattle.codec.specs.Every.{every, some}
@@ -13,8 +13,8 @@ use Rattle.reset.specs.Config.{Config}
 use Rattle.reset.specs.Clock.{vector}
 use Rattle.reset.specs.Steps.{Step, enter, send, recv, start}
 use Rattle.reset.specs.Network.{initial, Answered, log}
-use Rattle.reset.specs.Worked.{linesFrom, pair, middle, listing, allReset}
-use Rattle.causality.specs.Plain.{Message, at₁, at₂, plainInitial, Told, stuck, told, plainTold, plainAfter, fed}
+use Rattle.reset.specs.Worked.{linesFrom, pair, middle, listing}
+use Rattle.causality.specs.Plain.{Message, at₁, at₂, plainInitial, stuck, told, plainTold, plainAfter, fed}
 use Rattle.causality.specs.HappenedBefore.{Accepted, accepted, phaseOf, timestampOf, HappenedBefore}
 use Rattle.causality.specs.Sound.{takens, toldOf, phaseAfter}
 use Rattle.causality.specs.Tables.{closed, justified, Inside, table-exact}

@@ -1,0 +1,104 @@
+-- The vector clock theorem, with no network in it: over positions that have a station, a phase and counts, and edges between them, a position reaches
+-- another of its phase by edges exactly when none of its counts is greater. Assumes nothing.
+use Prim.Native.Nat.{ℕ, zero, suc, _≤_, _<_}
+use mathlib.Core.Path.{_≡_, refl, sym, subst}
+use mathlib.Core.Logic.{_≢_, _↔_, _⊎_, inl, inr}
+use native.Mathlib.Decide.{ℕ-discrete, decLt}
+use native.Mathlib.Omega.{arith}
+
+-- the smallest transitive relation that has the edges
+pub data Chain (Edge : ℕ → ℕ → Type 0) : ℕ → ℕ → Type 0 where
+  edge : {a b : ℕ} → Edge a b → Chain Edge a b
+  join : {a b c : ℕ} → Chain Edge a b → Chain Edge b c → Chain Edge a c
+
+-- What the positions below n have to do with the edges: `station`, `phase` and the counts `vc`, one for each station.
+pub record Clocked (n : ℕ) (station phase : ℕ → ℕ) (vc : ℕ → ℕ → ℕ) (Edge : ℕ → ℕ → Type 0) : Type 0 where
+  -- edges go up in position and never down in phase; one between two phases stays at its station
+  pub up : (a b : ℕ) → Edge a b → a < b
+  pub ends : (a b : ℕ) → Edge a b → b < n
+  pub later : (a b : ℕ) → Edge a b → phase a ≤ phase b
+  pub stays : (a b : ℕ) → Edge a b → phase a ≢ phase b → station a ≡ station b
+  -- within a phase, no count of another station falls
+  pub grow : (a b : ℕ) → Edge a b → phase a ≡ phase b → (k : ℕ) → k ≢ station b → vc a k ≤ vc b k
+  -- a station's positions are in a row; in one phase its own count rises, from 1
+  pub local : (a b : ℕ) → a < b → b < n → station a ≡ station b → Edge a b
+  pub rise : (a b k : ℕ) → a < b → b < n → station a ≡ k → station b ≡ k → phase a ≡ phase b → vc a k < vc b k
+  pub some : (b : ℕ) → b < n → zero < vc b (station b)
+  -- a count of another station came along an edge
+  pub from : (b k : ℕ) → b < n → k ≢ station b → zero < vc b k → (y : ℕ) × Edge y b × (phase y ≡ phase b) × (vc b k ≤ vc y k)
+
+module _ {n : ℕ} {station phase : ℕ → ℕ} {vc : ℕ → ℕ → ℕ} {Edge : ℕ → ℕ → Type 0} (C : Clocked n station phase vc Edge) where
+  chain-up : {a b : ℕ} → Chain Edge a b → a < b
+  chain-up {a} {b} (edge e) = C .up a b e
+  chain-up (join p q) = omega (arith, chain-up p, chain-up q)
+
+  chain-ends : {a b : ℕ} → Chain Edge a b → b < n
+  chain-ends {a} {b} (edge e) = C .ends a b e
+  chain-ends (join p q) = chain-ends q
+
+  chain-later : {a b : ℕ} → Chain Edge a b → phase a ≤ phase b
+  chain-later {a} {b} (edge e) = C .later a b e
+  chain-later (join p q) = omega (arith, chain-later p, chain-later q)
+
+  -- a position's own count reaches another position of its phase only along a chain
+  abbrev Back : ℕ → ℕ → Type 0
+  Back a b = b < n → phase a ≡ phase b → vc a (station a) ≤ vc b (station a) → (a ≡ b) ⊎ Chain Edge a b
+
+  along : {a y b : ℕ} → (a ≡ y) ⊎ Chain Edge a y → Edge y b → Chain Edge a b
+  along {b = b} (inl p) e = edge (subst (λ (z : ℕ). Edge z b) (sym p) e)
+  along (inr c) e = join c (edge e)
+
+  back-step : (a b : ℕ) → a < n → ((y : ℕ) → y < b → Back a y) → Back a b
+  back-step a b al ih bl p le = go (ℕ-discrete (station a) (station b))
+    where
+      here : station a ≡ station b → Dec (a < b) → Dec (b < a) → (a ≡ b) ⊎ Chain Edge a b
+      here t (yes l) g = inr (edge (C .local a b l bl t))
+      here t (no l) (yes g) = absurd (omega (arith, C .rise b a (station a) g al (sym t) refl (sym p)))
+      here t (no l) (no g) = inl (omega arith)
+
+      go : Dec (station a ≡ station b) → (a ≡ b) ⊎ Chain Edge a b
+      go (yes t) = here t (decLt a b) (decLt b a)
+      go (no t) =
+          let (y, e, q, l) = C .from b (station a) bl t (omega (arith, C .some a al)) in
+          inr (along (ih y (C .up y b e) (omega (arith, C .up y b e)) (omega arith) (omega arith)) e)
+
+  below : (m a b : ℕ) → a < n → b < m → Back a b
+  below zero a b al h = absurd (omega arith)
+  below (suc m) a b al h = back-step a b al (λ y l. below m a y al (omega arith))
+
+  back : (a b : ℕ) → a < n → Back a b
+  back a b al = below (suc b) a b al (omega arith)
+
+  -- at the end of a chain within a phase the own count is greater than at its start
+  pub chain-rise : {a b : ℕ} → Chain Edge a b → phase a ≡ phase b → (k : ℕ) → k ≡ station b → vc a k < vc b k
+  chain-rise {a} {b} c p k q = go (decLt (vc a k) (vc b k))
+    where
+      no-back : (b ≡ a) ⊎ Chain Edge b a → ⊥
+      no-back (inl e) = omega (arith, chain-up c)
+      no-back (inr d) = omega (arith, chain-up c, chain-up d)
+
+      go : Dec (vc a k < vc b k) → vc a k < vc b k
+      go (yes l) = l
+      go (no l) = absurd (no-back (back b a (chain-ends c) (omega (arith, chain-up c, chain-ends c)) (sym p) (rw (← q) (omega arith))))
+
+  -- along a chain within a phase no count falls
+  chain-grow : {a b : ℕ} → Chain Edge a b → phase a ≡ phase b → (k : ℕ) → vc a k ≤ vc b k
+  chain-grow {a} {b} (edge e) p k = go (ℕ-discrete k (station b))
+    where
+      go : Dec (k ≡ station b) → vc a k ≤ vc b k
+      go (yes q) = omega (arith, chain-rise (edge e) p k q)
+      go (no q) = C .grow a b e p k q
+  chain-grow (join c d) p k =
+      omega (
+        arith,
+        chain-grow c (omega (arith, chain-later c, chain-later d)) k,
+        chain-grow d (omega (arith, chain-later c, chain-later d)) k,
+      )
+
+  -- so, within a phase, chains are exactly the order of counts
+  pub chain-exactly : (a b : ℕ) → a < n → b < n → phase a ≡ phase b → Chain Edge a b ↔ ((a ≢ b) × ((k : ℕ) → vc a k ≤ vc b k))
+  chain-exactly a b al bl p = (λ c. (λ e. omega (arith, chain-up c), chain-grow c p), λ h. there (h .0) (back a b al bl p (h .1 (station a))))
+    where
+      there : a ≢ b → (a ≡ b) ⊎ Chain Edge a b → Chain Edge a b
+      there d (inl e) = absurd (d e)
+      there d (inr c) = c
