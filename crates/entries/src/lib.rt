@@ -68,7 +68,8 @@ fn front_fits(s: &[u8]) -> bool
                         & ((1 <= codec::get32(s, 4)) & codec::zeros(&s[8..16]))))))
 }
 
-fn count_of(s: &[u8]) -> usize
+// The count of records of a block.
+pub fn count_of(s: &[u8]) -> usize
     requires { ⌜ length (now s) ≡ 512 ⌝ }
     ensures { λ r. ⌜ r ≡ countOf (now (s .entry)) ⌝ }
 {

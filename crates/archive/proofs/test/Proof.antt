@@ -1,0 +1,70 @@
+use Prim.Native.Nat.{ℕ, _+_, _*_, _-_, _/_, _%_, _≤_, _<_}
+use mathlib.Core.Path.{_≡_, refl, _∙_, sym, ap}
+use native.Mathlib.Omega.{arith}
+use borrow.Author.Tests.{not-true, not-false, lt-ltb, le-ltb, eq-eqb, ne-eqb}
+use denote.Ref.{now}
+use lib.ListN.{take}
+use Rattle.archive.specs.Archive.{blocks, archiveTest}
+use Rattle.archive.proofs.Laws.{short-refused, header-small}
+use borrow.Author.Needs.{needs}
+use Rattle.archive.proofs.test.Statement.{statement}
+use Rattle.archive.proofs.test.Tie as tie
+
+returns : tie.Need-returns
+unfolding archiveTest blocks
+returns c = rw (ne-eqb _ 0 (c .if1 .taken))
+
+returns-2 : tie.Need-returns-2
+unfolding archiveTest blocks
+returns-2 c = rw (eq-eqb _ 0 (c .before .if1 .left), short-refused (now (c .before .before .before .args .a)) (c .if2 .taken))
+
+sub-head : tie.Need-sub-head
+sub-head c = search needs
+
+part-head-start : tie.Need-part-head-start
+part-head-start c = search needs
+
+part-head-end : tie.Need-part-head-end
+part-head-end c = search needs
+
+well-made-requires : tie.Need-well-made-requires
+well-made-requires c κs = search needs
+
+returns-3 : tie.Need-returns-3
+unfolding archiveTest blocks
+returns-3 c = rw (eq-eqb _ 0 (c .before .before .before .before .if1 .left), sym (c .before .well-made .ensures) ∙ not-true _ (c .if3 .taken))
+
+load-requires : tie.Need-load-requires
+load-requires c κs = search needs
+
+load-limits-requires : tie.Need-load-limits-requires
+load-limits-requires c κs = search needs
+
+sub-blocks-fit : tie.Need-sub-blocks-fit
+sub-blocks-fit c = search needs
+
+blocks-fit-requires : tie.Need-blocks-fit-requires
+blocks-fit-requires c κs =
+    let n = header-small (take 512 (now (c .before .before .before .before .before .before .before .before .args .a))) (sym (c .before .before .before .well-made .ensures) ∙ not-false _ (c .before .before .if3 .left)) in
+    (rw (c .before .load .ensures) n, omega arith)
+
+returns-4 : tie.Need-returns-4
+unfolding archiveTest blocks
+returns-4 c = rw (eq-eqb _ 0 (c .before .before .before .before .before .before .before .if1 .left), (sym (c .before .before .before .before .well-made .ensures) ∙ not-false _ (c .before .before .before .if3 .left)), ← c .before .before .load .ensures, ← c .before .load-limits .ensures) (c .blocks-fit .ensures)
+
+pub test-spec : {M : Type 1} → statement M
+test-spec =
+    tie.close
+    (tie.spec
+    returns
+    returns-2
+    sub-head
+    part-head-start
+    part-head-end
+    well-made-requires
+    returns-3
+    load-requires
+    load-limits-requires
+    sub-blocks-fit
+    blocks-fit-requires
+    returns-4)
