@@ -62,9 +62,9 @@ archiveTest a =
 unfoldable pub records : List ℕ → ℕ
 records a = cond (eqb (blocks a) 0) 0 ((blocks a - 1) * 15 + countOf (blockOf a (blocks a - 1)))
 
--- the 32 bytes of record k, where the archive is long enough for them; else none
+-- the 32 bytes of record k, where the archive has its block; else none
 unfoldable pub recordAt : List ℕ → ℕ → List ℕ
-recordAt a k = cond (leb ((k / 15 + 1) * 512 + recordStart (k % 15) + 32) (length a)) (take 32 (drop ((k / 15 + 1) * 512 + recordStart (k % 15)) a)) []
+recordAt a k = cond (ltb (k / 15 + 1) (length a / 512)) (take 32 (drop ((k / 15 + 1) * 512 + recordStart (k % 15)) a)) []
 
 -- ---- the calls
 -- how many records, or 1 for bytes that are no archive

@@ -126,3 +126,63 @@ pub fn test(a: &[u8]) -> bool
         a.len() / 512 - 1,
     )
 }
+
+// How many records a tested archive has.
+pub fn records(a: &[u8]) -> usize
+    requires { ⌜ archiveTest (now a) ≡ true ⌝ }
+    ensures { λ r. ⌜ r ≡ recordsOf (now (a .entry)) ⌝ }
+{
+    let n = a.len() / 512 - 1;
+    if n == 0 {
+        return 0;
+    }
+    let o = n * 512;
+    let e = o + 512;
+    (n - 1) * 15 + entries::count_of(&a[o..e])
+}
+
+// The 32 bytes of record k, as a part of the archive; an empty part where the archive has no such block.
+pub fn record_at<'a>(a: &'a [u8], k: usize) -> &'a [u8]
+    ensures { λ r. ⌜ now r ≡ recordAt (now (a .entry)) k ⌝ }
+{
+    let b = k / 15 + 1;
+    if a.len() / 512 <= b {
+        return &a[0..0];
+    }
+    let o = b * 512 + entries::start_of(k % 15);
+    let e = o + 32;
+    &a[o..e]
+}
+
+// How many records there are, or 1.
+pub fn count(a: &[u8]) -> Counted
+    ensures { λ r. ⌜ r ≡ countRecords (now (a .entry)) ⌝ }
+{
+    if !test(a) {
+        return Counted::Refused(1);
+    }
+    Counted::Records(records(a))
+}
+
+// Whether there is a record k: 1, 12, or 0 when there is.
+pub fn find(a: &[u8], k: usize) -> u8
+    ensures { λ r. ⌜ r ≡ findRecord (now (a .entry)) k ⌝ }
+{
+    if !test(a) {
+        return 1;
+    }
+    if records(a) <= k {
+        return 12;
+    }
+    0
+}
+
+// Record k as the caller's own 32 bytes; an empty part where `find` refuses.
+pub fn found<'a>(a: &'a [u8], k: usize) -> &'a [u8]
+    ensures { λ r. ⌜ now r ≡ foundRecord (now (a .entry)) k ⌝ }
+{
+    if find(a, k) != 0 {
+        return &a[0..0];
+    }
+    record_at(a, k)
+}

@@ -1,0 +1,23 @@
+use mathlib.Core.Path.{_≡_, refl, _∙_, sym, ap}
+use borrow.Author.Tests.{not-true, not-false, lt-ltb, le-ltb, eq-eqb, ne-eqb}
+use Rattle.archive.specs.Archive.{countRecords}
+use borrow.Author.Needs.{needs}
+use Rattle.archive.proofs.count.Statement.{statement}
+use Rattle.archive.proofs.count.Tie as tie
+
+test-requires : tie.Need-test-requires
+test-requires c κs = search needs
+
+returns : tie.Need-returns
+unfolding countRecords
+returns c = rw (sym (c .before .test .ensures) ∙ not-true _ (c .if1 .taken))
+
+records-requires : tie.Need-records-requires
+records-requires c κs = (sym (c .before .test .ensures) ∙ not-false _ (c .if1 .left))
+
+returns-2 : tie.Need-returns-2
+unfolding countRecords
+returns-2 c = rw ((sym (c .before .before .test .ensures) ∙ not-false _ (c .before .if1 .left)), c .records .ensures)
+
+pub count-spec : {M : Type 1} → statement M
+count-spec = tie.close (tie.spec test-requires returns records-requires returns-2)
