@@ -3,11 +3,12 @@ use Prim.Native.Nat.{ℕ, zero, suc, _+_, _*_, _≤_, _<_}
 use mathlib.Core.Path.{_≡_, refl, _∙_, sym, ap}
 use mathlib.Core.List.{List, [], _∷_, _++_, append-assoc, append-nil}
 use native.Mathlib.Omega.{arith}
-use mathlib.Core.Logic.{⊎-elim}
+use mathlib.Core.Logic.{_≢_, ⊎-elim}
+use native.Mathlib.Decide.{ℕ-discrete}
 use native.Mathlib.Numerals.{add-one}
 use native.Mathlib.Nat.{zero-mul, suc-mul, add-zero, eq-or-lt-of-le}
-use lib.ListN.{length, take, drop, set, getD, length-append, length-take, length-drop, List·getD-append}
-use lib.Seq.{take-at, drop-at, take-add, drop-drop, getD-at, ext-getD, set-split}
+use lib.ListN.{length, take, drop, set, getD, length-append, length-take, length-drop, length-set, List·getD-append}
+use lib.Seq.{take-at, drop-at, take-add, drop-drop, getD-at, ext-getD, set-split, getD-set-same, getD-set-other}
 use Rattle.codec.specs.Splice.{splice}
 use Rattle.codec.specs.Rows.{rows, upto}
 use Rattle.codec.specs.Num.{AreBytes}
@@ -115,3 +116,19 @@ made-turn d₀ d g at k h e =
     let m : length (splice d₀ at (upto k g)) ≡ length d₀ = splice-length d₀ at (upto k g) (omega arith) in
     rw (e, add-one, set-split (splice d₀ at (upto k g)) (at + k) (g k) (omega arith), ← add-one (at + k))
     (splice-more d₀ at (upto k g) (omega arith) (at + k) (g k ∷ []) (omega arith))
+
+-- lists made by functions that agree
+pub upto-same : {A : Type 0} (n : ℕ) (g h : ℕ → A) → ((i : ℕ) → i < n → g i ≡ h i) → upto n g ≡ upto n h
+unfolding upto
+upto-same zero g h e = refl
+upto-same (suc n) g h e = rw (upto-same n g h (λ (i : ℕ) (l : i < n). e i (omega arith)), e n (omega arith))
+
+-- one element replaced
+pub upto-set : {A : Type 0} (n : ℕ) (g h : ℕ → A) (i : ℕ) (v d : A) → i < n → h i ≡ v → ((k : ℕ) → k < n → k ≢ i → h k ≡ g k) → set (upto n g) i v ≡ upto n h
+upto-set n g h i v d l e f =
+    let m : length (upto n g) ≡ n = upto-length n g in
+    sym (upto-is n h (set (upto n g) i v) d (length-set (upto n g) i v ∙ m) (λ (k : ℕ) (b : k < n). at k b m (ℕ-discrete k i)))
+  where
+    at : (k : ℕ) → k < n → length (upto n g) ≡ n → Dec (k ≡ i) → h k ≡ getD (set (upto n g) i v) k d
+    at k b m (yes p) = rw p (e ∙ sym (getD-set-same (upto n g) i v d (omega arith)))
+    at k b m (no p) = f k b p ∙ sym (getD-set-other (upto n g) i k v d p ∙ upto-at n g k d b)

@@ -1,0 +1,81 @@
+use Prim.Native.Nat.{ℕ, _+_, _*_, _-_, _<_}
+use mathlib.Core.Path.{_≡_, _∙_, sym, ap}
+use mathlib.Core.List.{List}
+use native.Mathlib.Omega.{arith}
+use denote.Ref.{now}
+use lib.ListN.{length, getD, set}
+use Rattle.codec.proofs.SpliceLaws.{lent}
+use Rattle.reset.specs.Clock.{vector}
+use Rattle.reset.specs.State.{Item}
+use Rattle.link.specs.Image.{itemView, imageItem}
+use Rattle.link.proofs.Laws.{item-length, link-count, pushed}
+use borrow.Author.Needs.{needs}
+use Rattle.link.proofs.push.Statement.{statement}
+use Rattle.link.proofs.push.Tie as tie
+
+slice-read-b : tie.Need-slice-read-b
+slice-read-b c = search needs
+
+cast-count : tie.Need-cast-count
+cast-count c = search needs
+
+mul-o : tie.Need-mul-o
+mul-o c = search needs
+
+add-o : tie.Need-add-o
+add-o c = search needs
+
+add-e : tie.Need-add-e
+add-e c = search needs
+
+sub-store : tie.Need-sub-store
+sub-store c = search needs
+
+part-store-start : tie.Need-part-store-start
+part-store-start c = search needs
+
+part-store-end : tie.Need-part-store-end
+part-store-end c = search needs
+
+store-requires : tie.Need-store-requires
+store-requires c κs = search needs
+
+add-part : tie.Need-add-part
+add-part c = search needs
+
+slice-write-part : tie.Need-slice-write-part
+slice-write-part c = search needs
+
+same-length : tie.Need-same-length
+same-length c = search needs
+
+returns : tie.Need-returns
+returns c = λ q e.
+    let t = c .before .before in
+    let s = t .before .before .before .before in
+    let x : Item vector = itemView (s .args .x) in
+    let l = now (s .args .part) in
+    let o : ℕ = 1 + getD l 0 0 * 21 in
+    let k : o + 21 - o ≡ 21 = omega arith in
+    let n : getD l 0 0 ≡ length q = ap (λ (m : List ℕ). getD m 0 0) e ∙ link-count q in
+    let h : length q < 34 = omega arith in
+    ap (λ (m : List ℕ). set m 0 (getD l 0 0 + 1)) (lent l (t .store .last .0) (imageItem x) o (o + 21) (t .store .ensures) (k ∙ sym (item-length x)))
+    ∙ rw (n, e) (pushed q x h)
+
+pub push-spec : {M : Type 1} → statement M
+push-spec =
+    tie.close
+    (tie.spec
+    slice-read-b
+    cast-count
+    mul-o
+    add-o
+    add-e
+    sub-store
+    part-store-start
+    part-store-end
+    store-requires
+    add-part
+    slice-write-part
+    same-length
+    returns)

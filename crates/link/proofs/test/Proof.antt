@@ -1,0 +1,138 @@
+use borrow.Author.Needs.{needs}
+use Prim.Native.Nat.{ℕ, _+_, _*_, _-_, _≤_}
+use mathlib.Core.Path.{_≡_, _∙_, sym}
+use mathlib.Core.Bool.{true}
+use native.Mathlib.Omega.{arith}
+use borrow.Author.Tests.{not-true, not-false, le-leb, lt-leb}
+use denote.Ref.{now}
+use lib.ListN.{length, getD, take, drop, length-take, length-drop}
+use lib.Seq.{take-all}
+use Rattle.codec.specs.Every.{every}
+use Rattle.codec.proofs.EveryLaws.{every-none, every-more, every-fails}
+use Rattle.link.specs.Image.{itemTestAt, queueTest, sized}
+use Rattle.link.proofs.test.Statement.{statement}
+use Rattle.link.proofs.test.Tie as tie
+
+abbrev Inv-loop : tie.InvT-loop
+Inv-loop places n t part b count k₀ k = (k ≤ count) × (every k (itemTestAt (sized n t) part) ≡ true)
+
+abbrev μ-loop : tie.MeasureT-loop
+μ-loop places n t part b count k₀ k = count - k
+
+shared-slice-read-b : tie.Need-shared-slice-read-b Inv-loop μ-loop
+shared-slice-read-b c = search needs
+
+returns : tie.Need-returns Inv-loop μ-loop
+unfolding queueTest
+returns c = rw (lt-leb _ _ (c .if1 .taken))
+
+cast-count : tie.Need-cast-count Inv-loop μ-loop
+cast-count c = search needs
+
+loop-holds : tie.Need-loop-holds Inv-loop μ-loop
+loop-holds c = (omega arith, every-none _)
+
+mul-o : tie.Need-mul-o Inv-loop μ-loop
+mul-o c = search needs
+
+add-o : tie.Need-add-o Inv-loop μ-loop
+add-o c = search needs
+
+add-e : tie.Need-add-e Inv-loop μ-loop
+add-e c = search needs
+
+sub-item-test : tie.Need-sub-item-test Inv-loop μ-loop
+sub-item-test c = search needs
+
+part-item-test-start : tie.Need-part-item-test-start Inv-loop μ-loop
+part-item-test-start c = search needs
+
+part-item-test-end : tie.Need-part-item-test-end Inv-loop μ-loop
+part-item-test-end c = search needs
+
+item-test-requires : tie.Need-item-test-requires Inv-loop μ-loop
+item-test-requires c κs = simp (length-take, length-drop) (omega arith)
+
+-- the test of the part lent is that of place k
+tested : (c : tie.After-item-test Inv-loop μ-loop)
+    → let s = c .before .before .before .before .before .before .before in
+    itemTestAt (sized (s .args .n) (s .args .t)) (now (s .args .part)) (c .before .before .before .loop .k) ≡ c .item-test .result
+tested c =
+    let k = c .before .before .before .loop .k in
+    let e : 1 + k * 21 + 21 - (1 + k * 21) ≡ 21 = omega arith in
+    sym (rw e at (c .item-test .ensures))
+
+returns-2 : tie.Need-returns-2 Inv-loop μ-loop
+unfolding queueTest
+returns-2 c =
+    let l = c .before .before .before .before .before in
+    let s = l .before .before .before in
+    rw (le-leb _ _ (l .if1 .left), every-fails (getD (now (s .args .part)) 0 0) _ (c .before .before .before .before .loop .k) (omega arith) (tested (c .before) ∙ not-true _ (c .if2 .taken)))
+
+add-k : tie.Need-add-k Inv-loop μ-loop
+add-k c = search needs
+
+loop-less : tie.Need-loop-less Inv-loop μ-loop
+loop-less c = search needs
+
+loop-again : tie.Need-loop-again Inv-loop μ-loop
+loop-again c =
+    let l = c .before .before .before .before .loop in
+    (omega arith, every-more (l .k) _ (l .inv .1) (tested (c .before) ∙ not-false _ (c .if2 .left)))
+
+mul-z : tie.Need-mul-z Inv-loop μ-loop
+mul-z c = search needs
+
+add-z : tie.Need-add-z Inv-loop μ-loop
+add-z c = search needs
+
+sub-zeros : tie.Need-sub-zeros Inv-loop μ-loop
+sub-zeros c = search needs
+
+part-zeros-start : tie.Need-part-zeros-start Inv-loop μ-loop
+part-zeros-start c = search needs
+
+part-zeros-end : tie.Need-part-zeros-end Inv-loop μ-loop
+part-zeros-end c = search needs
+
+zeros-requires : tie.Need-zeros-requires Inv-loop μ-loop
+zeros-requires c κs = search needs
+
+returns-3 : tie.Need-returns-3 Inv-loop μ-loop
+unfolding queueTest
+returns-3 c =
+    let l = c .before .before .before in
+    let a = now (l .before .before .before .before .args .part) in
+    let z : ℕ = 1 + getD a 0 0 * 21 in
+    let e : l .loop .k ≡ getD a 0 0 = omega arith in
+    let f : take (length a - z) (drop z a) ≡ drop z a = take-all (length a - z) (drop z a) (simp length-drop (omega arith)) in
+    rw (le-leb _ _ (l .before .if1 .left), rw e at (l .loop .inv .1)) (rw f at (c .zeros .ensures))
+
+pub test-spec : {M : Type 1} → statement M
+test-spec =
+    tie.close
+    (tie.spec
+    Inv-loop
+    μ-loop
+    shared-slice-read-b
+    returns
+    cast-count
+    loop-holds
+    mul-o
+    add-o
+    add-e
+    sub-item-test
+    part-item-test-start
+    part-item-test-end
+    item-test-requires
+    returns-2
+    add-k
+    loop-less
+    loop-again
+    mul-z
+    add-z
+    sub-zeros
+    part-zeros-start
+    part-zeros-end
+    zeros-requires
+    returns-3)

@@ -1,0 +1,170 @@
+// A link's queue in a lent part of 715 bytes: the count of its items, 34 places of 21 bytes, zeros after the last item.
+ghost use mathlib.Core.Path.{_≡_};
+ghost use mathlib.Core.List.{[], _∷_, _++_};
+ghost use Prim.Native.Nat.{_+_, _-_, _<_, _≤_};
+ghost use lib.ListN.{length, drop, getD};
+ghost use Rattle.codec.specs.Num.{bytesOf, numsOf};
+ghost use Rattle.codec.specs.Every.{blank};
+ghost use Rattle.reset.specs.Clock.{vector};
+ghost use Rattle.reset.specs.State as state;
+ghost use Rattle.reset.specs.WellFormed.{countsFit};
+ghost use Rattle.link.specs.Image.{Queue, itemView, imageItem, parseItem, itemTest, imageLink, itemAt, queueTest, sized};
+
+// Kind 1 is a message, 2 reset_req, 3 reset_done; the register number and the counts are a message's.
+pub struct Item {
+    pub kind: u8,
+    pub register: u32,
+    pub counts: [u16; 8],
+}
+
+// The item in a place of 21 bytes.
+pub fn load(part: &[u8]) -> Item
+    requires { ⌜ length (now part) ≡ 21 ⌝ }
+    ensures { λ r. ⌜ itemView r ≡ parseItem (now (part .entry)) ⌝ }
+{
+    let counts = codec::get_row(part, 5);
+    Item {
+        kind: part[0],
+        register: codec::get32(part, 1),
+        counts,
+    }
+}
+
+// Fills a place of 21 bytes: kind, register number, counts.
+fn store_fields(part: &mut [u8], kind: u8, register: u32, counts: [u16; 8])
+    requires { ⌜ length (now part) ≡ 21 ⌝ }
+    ensures { λ _. ⌜ now (part .exit) ≡ (kind ∷ []) ++ bytesOf 4 register ++ numsOf 2 8 counts ⌝ }
+{
+    codec::put32(part, 1, register);
+    codec::put_row(part, 5, counts);
+    part[0] = kind;
+}
+
+// Writes an item into a place of 21 bytes.
+pub fn store(part: &mut [u8], x: Item)
+    requires { ⌜ length (now part) ≡ 21 ⌝ }
+    ensures { λ _. ⌜ now (part .exit) ≡ imageItem (itemView x) ⌝ }
+{
+    let kind = x.kind;
+    if (kind == 2) | (kind == 3) {
+        store_fields(part, kind, 0, [0u16; 8]);
+        return;
+    }
+    let counts = x.counts;
+    store_fields(part, 1, x.register, counts);
+}
+
+// Every count is at most `most`, and 0 for stations n and above.
+pub fn counts_fit(n: u8, most: u16, counts: [u16; 8]) -> bool
+    ensures { λ r. ⌜ r ≡ countsFit (sized n most) most counts ⌝ }
+{
+    let mut ok = true;
+    let mut k: u8 = 0;
+    while k < 8 {
+        let at = k as usize;
+        let count = counts[at];
+        ok = ok & ((count <= most) & ((k < n) | (count == 0)));
+        k += 1;
+    }
+    ok
+}
+
+// A place of 21 bytes holds an item in range.
+pub fn item_test(n: u8, t: u16, part: &[u8]) -> bool
+    requires { ⌜ length (now part) ≡ 21 ⌝ }
+    ensures { λ r. ⌜ r ≡ itemTest (sized n t) (now (part .entry)) ⌝ }
+{
+    let kind = part[0];
+    if kind == 1 {
+        let counts = codec::get_row(part, 5);
+        return counts_fit(n, t, counts);
+    }
+    ((kind == 2) | (kind == 3)) & codec::zeros(&part[1..])
+}
+
+// The part is a queue of at most `places` items in range.
+pub fn test(places: u8, n: u8, t: u16, part: &[u8]) -> bool
+    requires { ⌜ (length (now part) ≡ 715) × (places ≤ 34) ⌝ }
+    ensures { λ r. ⌜ r ≡ queueTest places (sized n t) (now (part .entry)) ⌝ }
+{
+    let b = part[0];
+    if places < b {
+        return false;
+    }
+    let count = b as usize;
+    let mut k = 0;
+    while k < count {
+        let o = 1 + k * 21;
+        let e = o + 21;
+        if !item_test(n, t, &part[o..e]) {
+            return false;
+        }
+        k += 1;
+    }
+    let z = 1 + count * 21;
+    codec::zeros(&part[z..])
+}
+
+// How many items the queue has.
+pub fn count(part: &[u8]) -> u8
+    requires { ⌜ length (now part) ≡ 715 ⌝ }
+    ensures { λ r. ⌜ r ≡ getD (now (part .entry)) 0 0 ⌝ }
+{
+    part[0]
+}
+
+// The first item, which stays.
+pub fn first(part: &[u8]) -> Item
+    requires { ⌜ length (now part) ≡ 715 ⌝ }
+    ensures { λ r. ⌜ itemView r ≡ itemAt (now (part .entry)) 0 ⌝ }
+{
+    load(&part[1..22])
+}
+
+// Puts an item behind the others.
+pub fn push(part: &mut [u8], x: Item)
+    requires { ⌜ (length (now part) ≡ 715) × (getD (now part) 0 0 < 34) ⌝ }
+    ensures { λ _. ⌜ ((q : Queue) → now (part .entry) ≡ imageLink q → now (part .exit) ≡ imageLink (q ++ (itemView x ∷ []))) ⌝ }
+{
+    let b = part[0];
+    let count = b as usize;
+    let o = 1 + count * 21;
+    let e = o + 21;
+    store(&mut part[o..e], x);
+    part[0] = b + 1;
+}
+
+// What stands k places on is moved to the front; the last k places keep what they had.
+fn shift(d: &mut [u8], k: usize)
+    requires { ⌜ k ≤ length (now d) ⌝ }
+    ensures { λ _. ⌜ now (d .exit) ≡ drop k (now (d .entry)) ++ drop (length (now (d .entry)) - k) (now (d .entry)) ⌝ }
+{
+    let n = d.len() - k;
+    let mut i = 0;
+    while i < n {
+        d[i] = d[i + k];
+        i += 1;
+    }
+}
+
+// The first k are taken off, and zeros follow.
+fn drop_front(d: &mut [u8], k: usize)
+    requires { ⌜ k ≤ length (now d) ⌝ }
+    ensures { λ _. ⌜ now (d .exit) ≡ drop k (now (d .entry)) ++ blank k ⌝ }
+{
+    let n = d.len() - k;
+    shift(d, k);
+    codec::put_zeros(d, n, k);
+}
+
+// Takes the first item off; only the places in use are moved.
+pub fn pop(part: &mut [u8])
+    requires { ⌜ (length (now part) ≡ 715) × (0 < getD (now part) 0 0) × (getD (now part) 0 0 ≤ 34) ⌝ }
+    ensures { λ _. ⌜ ((x : state.Item vector) (q : Queue) → now (part .entry) ≡ imageLink (x ∷ q) → now (part .exit) ≡ imageLink q) ⌝ }
+{
+    let b = part[0];
+    let count = b as usize;
+    let e = 1 + count * 21;
+    drop_front(&mut part[1..e], 21);
+    part[0] = b - 1;
+}

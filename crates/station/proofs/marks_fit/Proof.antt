@@ -1,0 +1,61 @@
+use lib.ListN.{length}
+use borrow.Author.Tests.{eq-eqb}
+use Prim.Native.Nat.{_-_, _≤_}
+use mathlib.Core.Path.{_≡_, sym}
+use native.Mathlib.Omega.{arith}
+use borrow.Author.Needs.{needs}
+use Rattle.codec.specs.Every.{every}
+use Rattle.codec.proofs.EveryLaws.{every-none}
+use Rattle.codec.proofs.FlagLaws.{every-turn}
+use Rattle.station.specs.Test.{marksWithinAt}
+use Rattle.station.proofs.marks_fit.Statement.{statement}
+use Rattle.station.proofs.marks_fit.Tie as tie
+
+abbrev Inv-loop : tie.InvT-loop
+Inv-loop row reqs dones ok₀ j₀ ok j = (j ≤ 8) × (ok ≡ every j (marksWithinAt row reqs dones))
+
+abbrev μ-loop : tie.MeasureT-loop
+μ-loop row reqs dones ok₀ j₀ ok j = 8 - j
+
+loop-holds : tie.Need-loop-holds Inv-loop μ-loop
+loop-holds c = (omega arith, sym (every-none _))
+
+array-read-ok : tie.Need-array-read-ok Inv-loop μ-loop
+array-read-ok c = search needs
+
+array-read-ok-2 : tie.Need-array-read-ok-2 Inv-loop μ-loop
+array-read-ok-2 c = search needs
+
+array-read-ok-3 : tie.Need-array-read-ok-3 Inv-loop μ-loop
+array-read-ok-3 c = search needs
+
+add-j : tie.Need-add-j Inv-loop μ-loop
+add-j c = search needs
+
+loop-less : tie.Need-loop-less Inv-loop μ-loop
+loop-less c = search needs
+
+loop-again : tie.Need-loop-again Inv-loop μ-loop
+loop-again c = (omega arith, rw (every-turn, c .before .loop .inv .1))
+
+returns : tie.Need-returns Inv-loop μ-loop
+returns c =
+    let e : c .before .loop .j ≡ 8 = omega arith in
+    let n0 : length (c .before .before .args .t2) ≡ 8 = omega arith in
+    let n1 : length (c .before .before .args .t3) ≡ 8 = omega arith in
+    rw (eq-eqb _ 8 n0, eq-eqb _ 8 n1) (rw e at (c .before .loop .inv .1))
+
+pub marks-fit-spec : {M : Type 1} → statement M
+marks-fit-spec =
+    tie.close
+    (tie.spec
+    Inv-loop
+    μ-loop
+    loop-holds
+    array-read-ok
+    array-read-ok-2
+    array-read-ok-3
+    add-j
+    loop-less
+    loop-again
+    returns)

@@ -1,0 +1,3 @@
+pub mod View
+pub mod Image
+pub mod Test

@@ -1,0 +1,16 @@
+use mathlib.Core.Path.{sym}
+use mathlib.Core.Bool.{true, false}
+use native.Mathlib.Omega.{arith}
+use Rattle.codec.proofs.PutLaws.{put-set}
+use borrow.Author.Needs.{needs}
+use Rattle.turning.proofs.marked.Statement.{statement}
+use Rattle.turning.proofs.marked.Tie as tie
+
+array-write-r : tie.Need-array-write-r
+array-write-r c = search needs
+
+returns : tie.Need-returns
+returns c = let a = c .args in sym (put-set false (a .marks) (a .j) true (omega arith))
+
+pub marked-spec : {M : Type 1} → statement M
+marked-spec = tie.close (tie.spec array-write-r returns)

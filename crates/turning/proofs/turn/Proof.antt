@@ -1,0 +1,34 @@
+use Prim.Native.Nat.{ℕ}
+use mathlib.Core.Path.{_≡_, refl, ap, _∙_}
+use mathlib.Core.List.{List, []}
+use lib.ListN.{getD}
+use Rattle.reset.specs.Config.{Config}
+use Rattle.station.specs.View.{stationView}
+use Rattle.turning.specs.Slots.{slotItems, slotsView, fresh}
+use Rattle.turning.proofs.SlotLaws.{SlotsFit, all-fits, slots-turned}
+use borrow.Author.Needs.{needs}
+use Rattle.turning.proofs.turn.Statement.{statement}
+use Rattle.turning.proofs.turn.Tie as tie
+
+mul-row : tie.Need-mul-row
+mul-row c = search needs
+
+array-copy-out-row : tie.Need-array-copy-out-row
+array-copy-out-row c = search needs
+
+turn-all-requires : tie.Need-turn-all-requires
+turn-all-requires c κs = search needs
+
+returns : tie.Need-returns
+returns c =
+    let a = c .before .before .args in
+    let w : Config = record { n = 0; t = 0; allowances = []; limits = a .t1 } in
+    let k : SlotsFit (slotsView (c .turn-all .result)) = rw (c .turn-all .ensures w (a .i) refl) (all-fits w (a .i) (fresh (stationView (a .s))) (refl, refl)) in (
+      λ (d : Config) (e : d .limits ≡ a .t1).
+          ap slotItems (c .turn-all .ensures d (a .i) (ap (λ (m : List (List ℕ)). getD m (a .i) []) e)) ∙ slots-turned d (a .i) (stationView (a .s)),
+      k .0,
+      k .1,
+    )
+
+pub turn-spec : {M : Type 1} → statement M
+turn-spec = tie.close (tie.spec mul-row array-copy-out-row turn-all-requires returns)

@@ -1,0 +1,27 @@
+use Prim.Native.Nat.{ℕ}
+use mathlib.Core.Path.{_≡_, ap, _∙_}
+use mathlib.Core.List.{[]}
+use lib.ListN.{getD}
+use Rattle.reset.specs.Config.{Config}
+use Rattle.turning.specs.Slots.{slotOnce}
+use borrow.Author.Needs.{needs}
+use Rattle.turning.proofs.turn_all.Statement.{statement}
+use Rattle.turning.proofs.turn_all.Tie as tie
+
+turn-once-requires : tie.Need-turn-once-requires
+turn-once-requires c κs = search needs
+
+turn-once-requires-2 : tie.Need-turn-once-requires-2
+turn-once-requires-2 c κs = search needs
+
+turn-once-requires-3 : tie.Need-turn-once-requires-3
+turn-once-requires-3 c κs = search needs
+
+returns : tie.Need-returns
+returns c =
+    λ (d : Config) (i : ℕ) (r : getD (d .limits) i [] ≡ c .before .before .before .args .row).
+    c .turn-once3 .ensures .0 d i r ∙ ap (slotOnce d i) (c .before .turn-once2 .ensures .0 d i r ∙ ap (slotOnce d i) (c .before .before .turn-once .ensures .0 d i r))
+
+pub turn-all-spec : {M : Type 1} → statement M
+turn-all-spec =
+    tie.close (tie.spec turn-once-requires turn-once-requires-2 turn-once-requires-3 returns)
