@@ -1,2 +1,5 @@
 pub mod Local
 pub mod Entries
+pub mod Formed
+pub mod Control
+pub mod Outcome
