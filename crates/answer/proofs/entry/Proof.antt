@@ -1,0 +1,46 @@
+use native.Mathlib.Omega.{arith}
+use Rattle.text.proofs.WrittenLaws.{written-more}
+use Rattle.answer.specs.Answer.{entryText}
+use borrow.Author.Needs.{needs}
+use Rattle.answer.proofs.entry.Statement.{statement}
+use Rattle.answer.proofs.entry.Tie as tie
+
+slice-aggregate-opening : tie.Need-slice-aggregate-opening
+slice-aggregate-opening c = search needs
+
+opening-requires : tie.Need-opening-requires
+opening-requires c κs = search needs
+
+counted-requires : tie.Need-counted-requires
+counted-requires c κs = search needs
+
+slice-aggregate-word : tie.Need-slice-aggregate-word
+slice-aggregate-word c = search needs
+
+word-requires : tie.Need-word-requires
+word-requires c κs = search needs
+
+same-length : tie.Need-same-length
+same-length c = search needs
+
+returns : tie.Need-returns
+unfolding entryText
+returns c =
+    let z = c .before .before .before .before .before .before .before .before .before .before .before .before .before .before .before .pre in
+    let a = c .before .before .before .before .before .before .before .before .before .before .before .opening .ensures in
+    let b = c .before .before .before .before .before .before .before .counted .ensures in
+    let d = c .before .before .word .ensures in
+    let p = written-more (a .0) (b .0) (omega (arith, a .1)) in
+    (written-more p d (omega (arith, a .1, b .1)), omega (arith, a .1, b .1, d .next))
+
+pub entry-spec : {M : Type 1} → statement M
+entry-spec =
+    tie.close
+    (tie.spec
+    slice-aggregate-opening
+    opening-requires
+    counted-requires
+    slice-aggregate-word
+    word-requires
+    same-length
+    returns)

@@ -1,0 +1,48 @@
+use native.Mathlib.Omega.{arith}
+use Rattle.text.proofs.WrittenLaws.{written-more}
+use Rattle.answer.specs.Answer.{setupText}
+use Rattle.answer.proofs.AnswerLaws.{length8}
+use borrow.Author.Needs.{needs}
+use Rattle.answer.proofs.setup_refused.Statement.{statement}
+use Rattle.answer.proofs.setup_refused.Tie as tie
+
+slice-aggregate-word : tie.Need-slice-aggregate-word
+slice-aggregate-word c = search needs
+
+word-requires : tie.Need-word-requires
+word-requires c κs = search needs
+
+number-requires : tie.Need-number-requires
+number-requires c κs = let s = c .before .before .before .before .before .before .before in omega (arith, length8 (s .args .refusal) (s .fits .refusal))
+
+slice-aggregate-word-2 : tie.Need-slice-aggregate-word-2
+slice-aggregate-word-2 c = search needs
+
+word-requires-2 : tie.Need-word-requires-2
+word-requires-2 c κs = let s = c .before .before .before .before .before .before .before .before .before .before .before .before in omega (arith, length8 (s .args .refusal) (s .fits .refusal))
+
+same-length : tie.Need-same-length
+same-length c = search needs
+
+returns : tie.Need-returns
+unfolding setupText
+returns c =
+    let s = c .before .before .before .before .before .before .before .before .before .before .before .before .before .before .before in
+    let a = c .before .before .before .before .before .before .before .before .before .before .before .word .ensures in
+    let b = c .before .before .before .before .before .before .before .number .ensures in
+    let d = c .before .before .word2 .ensures in
+    let k = length8 (s .args .refusal) (s .fits .refusal) in
+    let p = written-more a b (omega (arith, a .next)) in
+    (written-more p d (omega (arith, a .next, b .next)), omega (arith, a .next, b .next, d .next))
+
+pub setup-refused-spec : {M : Type 1} → statement M
+setup-refused-spec =
+    tie.close
+    (tie.spec
+    slice-aggregate-word
+    word-requires
+    number-requires
+    slice-aggregate-word-2
+    word-requires-2
+    same-length
+    returns)

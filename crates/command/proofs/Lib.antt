@@ -1,0 +1,4 @@
+pub mod MadeLaws
+pub mod StartLaws
+pub mod TextLaws
+pub mod Cases

@@ -1,0 +1,27 @@
+use native.Mathlib.Omega.{arith}
+use Rattle.command.proofs.MadeLaws.{not-two, below2}
+use Rattle.command.specs.declared.Command.the-variants.{Enter}
+use borrow.Author.Needs.{needs}
+use Rattle.command.proofs.enter.Statement.{statement}
+use Rattle.command.proofs.enter.Tie as tie
+
+enum-known-x : tie.Need-enum-known-x
+enum-known-x c = search needs
+
+returns : tie.Need-returns
+returns c = not-two Enter (c .before .args .x) (c .match .keys2)
+
+cast-t7 : tie.Need-cast-t7
+cast-t7 c = omega (arith, below2 (c .before .before .x .given .0 .0) 8 (c .before .before .x .given .0 .1 .0) 4294967296 (c .if1 .taken))
+
+cast-t8 : tie.Need-cast-t8
+cast-t8 c = omega (arith, below2 (c .before .before .x .given .0 .0) 8 (c .before .before .x .given .0 .1 .0) 4294967296 (c .if1 .taken))
+
+returns-2 : tie.Need-returns-2
+returns-2 c = rw (c .before .before .x .given .1, c .if1 .taken)
+
+returns-3 : tie.Need-returns-3
+returns-3 c = rw (c .before .before .x .given .1, c .if1 .left)
+
+pub enter-spec : {M : Type 1} → statement M
+enter-spec = tie.close (tie.spec enum-known-x returns cast-t7 cast-t8 returns-2 returns-3)

@@ -1,0 +1,90 @@
+use Prim.Native.Nat.{_-_, _<_}
+use mathlib.Core.Path.{_≡_, refl, _∙_, sym}
+use native.Mathlib.Omega.{arith}
+use borrow.Author.Needs.{needs}
+use borrow.Author.Tests.{not-true, not-false}
+use lib.ListN.{length, drop}
+use Rattle.fields.specs.Fields.{more}
+use Rattle.decimal.specs.DecimalLaws.{digit-range}
+use Rattle.fields.proofs.FieldLaws.{ends, stops, sticks, goes, under}
+use Rattle.fields.proofs.digits.Statement.{statement}
+use Rattle.fields.proofs.digits.Tie as tie
+
+abbrev Inv-loop : tie.InvT-loop
+Inv-loop s from start v₀ i₀ v i = (v < 4294967296) × (more v (drop i s) ≡ more start (drop from s))
+
+abbrev μ-loop : tie.MeasureT-loop
+μ-loop s from start v₀ i₀ v i = length s - i
+
+loop-holds : tie.Need-loop-holds Inv-loop μ-loop
+loop-holds c = (omega arith, refl)
+
+shared-slice-read-x : tie.Need-shared-slice-read-x Inv-loop μ-loop
+shared-slice-read-x c = search needs
+
+is-digit-requires : tie.Need-is-digit-requires Inv-loop μ-loop
+is-digit-requires c κs = search needs
+
+returns : tie.Need-returns Inv-loop μ-loop
+returns c =
+    let k = c .before .before .before .before in
+    stops _ (k .loop .v) (k .loop .i) (omega arith) (sym (c .before .is-digit .ensures) ∙ not-true _ (c .if1 .taken)) ∙ k .loop .inv .1
+
+mul-w : tie.Need-mul-w Inv-loop μ-loop
+mul-w c = omega (arith, c .before .before .before .before .loop .inv)
+
+wide-requires : tie.Need-wide-requires Inv-loop μ-loop
+wide-requires c κs = search needs
+
+sub-w : tie.Need-sub-w Inv-loop μ-loop
+sub-w c =
+    let k = c .before .before .before .before .before in
+    let d = digit-range _ (sym (c .before .before .is-digit .ensures) ∙ not-false _ (c .before .if1 .left)) in
+    omega (arith, d, c .wide .ensures)
+
+add-w : tie.Need-add-w Inv-loop μ-loop
+add-w c =
+    let k = c .before .before .before .before .before in
+    let d = digit-range _ (sym (c .before .before .is-digit .ensures) ∙ not-false _ (c .before .if1 .left)) in
+    omega (arith, d, c .wide .ensures, k .loop .inv)
+
+returns-2 : tie.Need-returns-2 Inv-loop μ-loop
+returns-2 c =
+    let k = c .before .before .before .before .before .before in
+    let d = sym (c .before .before .before .is-digit .ensures) ∙ not-false _ (c .before .before .if1 .left) in
+    sticks _ (k .loop .v) (k .loop .i) _ (c .before .wide .ensures .0) (omega arith) d (c .if2 .taken) ∙ k .loop .inv .1
+
+add-i : tie.Need-add-i Inv-loop μ-loop
+add-i c = search needs
+
+loop-less : tie.Need-loop-less Inv-loop μ-loop
+loop-less c = search needs
+
+loop-again : tie.Need-loop-again Inv-loop μ-loop
+loop-again c =
+    let k = c .before .before .before .before .before .before in
+    let d = sym (c .before .before .before .is-digit .ensures) ∙ not-false _ (c .before .before .if1 .left) in
+    (under (k .loop .v) _ (c .if2 .left), goes _ (k .loop .v) (k .loop .i) _ (c .before .wide .ensures .0) (omega arith) d (c .if2 .left) ∙ k .loop .inv .1)
+
+returns-3 : tie.Need-returns-3 Inv-loop μ-loop
+returns-3 c = ends _ _ (c .before .loop .i) (omega arith) ∙ c .before .loop .inv .1
+
+pub digits-spec : {M : Type 1} → statement M
+digits-spec =
+    tie.close
+    (tie.spec
+    Inv-loop
+    μ-loop
+    loop-holds
+    shared-slice-read-x
+    is-digit-requires
+    returns
+    mul-w
+    wide-requires
+    sub-w
+    add-w
+    returns-2
+    add-i
+    loop-less
+    loop-again
+    returns-3)

@@ -1,0 +1,41 @@
+use Rattle.fields.proofs.FieldLaws.{third-more, third-last}
+use borrow.Author.Needs.{needs}
+use Rattle.fields.proofs.third.Statement.{statement}
+use Rattle.fields.proofs.third.Tie as tie
+
+field-at-requires : tie.Need-field-at-requires
+field-at-requires c κs = search needs
+
+enum-told : tie.Need-enum-told
+enum-told c = search needs
+
+enum-told-2 : tie.Need-enum-told-2
+enum-told-2 c = search needs
+
+enum-known-f : tie.Need-enum-known-f
+enum-known-f c = search needs
+
+returns : tie.Need-returns
+returns c = rw (← c .before .before .field-at .ensures, c .enum-told .given .1)
+
+returns-2 : tie.Need-returns-2
+returns-2 c = rw (← c .before .before .field-at .ensures, c .enum-told2 .given .1)
+
+returns-3 : tie.Need-returns-3
+returns-3 c = rw (← c .before .before .before .before .field-at .ensures, c .before .before .f .given .1) (third-more _ _ _ _ _ (c .if1 .taken))
+
+returns-4 : tie.Need-returns-4
+returns-4 c = rw (← c .before .before .before .before .field-at .ensures, c .before .before .f .given .1) (third-last _ _ _ _ _ (c .if1 .left))
+
+pub third-spec : {M : Type 1} → statement M
+third-spec =
+    tie.close
+    (tie.spec
+    field-at-requires
+    enum-told
+    enum-told-2
+    enum-known-f
+    returns
+    returns-2
+    returns-3
+    returns-4)
