@@ -135,12 +135,13 @@ fn renew(s: Station) -> Station
     ensures { λ r. ⌜ stationView r ≡ renewed (stationView s) ⌝ }
 {
     let kept = s.dones;
+    let phase = s.phase + 1;
     Station {
         counts: [0u16; 8],
         sent: [0u8; 8],
         reqs: [false; 8],
         dones: kept,
-        phase: s.phase + 1,
+        phase,
         own: 0,
         mode: Mode::StandBy,
     }
@@ -209,7 +210,6 @@ fn turn_once(row: [u8; 8], t: Turned) -> Turned
                     second: 3,
                 };
             }
-            t
         }
         Mode::StandBy => {
             if every_seen(row, dones) {
@@ -219,7 +219,6 @@ fn turn_once(row: [u8; 8], t: Turned) -> Turned
                     second: t.second,
                 };
             }
-            t
         }
         Mode::Normal => {
             if some_seen(row, reqs) {
@@ -229,9 +228,9 @@ fn turn_once(row: [u8; 8], t: Turned) -> Turned
                     second: t.second,
                 };
             }
-            t
         }
     }
+    t
 }
 
 // The rules tried from the first again after each that applies: three at most do.
