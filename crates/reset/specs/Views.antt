@@ -106,7 +106,7 @@ module _ {K : Clock} (c : Config) (i : ℕ) (x : Item K) where
     link-first-row (suc m) a b n = link-put-linked-row (putFirst m c s i x) m a b n ∙ link-first-row m a b n
 
     -- not yet reached, or no neighbour
-    link-first-past : (m b : ℕ) → m ≤ b → linkAt (putFirst m c s i x) i b ≡ linkAt s i b
+    pub link-first-past : (m b : ℕ) → m ≤ b → linkAt (putFirst m c s i x) i b ≡ linkAt s i b
     unfolding putFirst
     link-first-past zero b l = refl
     link-first-past (suc m) b l = link-put-linked-col (putFirst m c s i x) m b (omega arith) ∙ link-first-past m b (omega arith)
