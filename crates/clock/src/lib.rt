@@ -100,11 +100,11 @@ pub fn counts_fit(a: [u16; 8], n: u8, t: u16) -> bool
     ensures { λ r. ⌜ r ≡ countsFit n t a ⌝ }
 {
     let mut ok = true;
-    let mut k: u8 = 0;
-    while k < 8 {
-        let i = k as usize;
-        ok = ok & (a[i] <= ceiling(k, n, t));
-        k += 1;
+    let mut j: u8 = 0;
+    while j < 8 {
+        let i = j as usize;
+        ok = ok & (a[i] <= ceiling(j, n, t));
+        j += 1;
     }
     ok
 }

@@ -6,16 +6,19 @@ use mathlib.Core.Bool.{Bool, true, false, not}
 use native.Mathlib.Omega.{arith}
 use lib.Dec.{ltb, eqb}
 use lib.ListN.{length, getD, take}
-use borrow.Author.Tests.{lt-ltb, le-ltb, eq-eqb, ne-eqb}
+use borrow.Author.Tests.{lt-ltb, le-ltb, eq-eqb, ne-eqb, leb-true}
 use Rattle.codec.specs.Num.{AreBytes}
+use Rattle.codec.proofs.EveryLaws.{both, every-at}
 use Rattle.header.specs.Header.{parseHeader, tableAt}
 use Rattle.header.specs.declared.Header.{Header}
 use Rattle.reset.specs.Reach.{limit, linked}
-use Rattle.reset.specs.Config.{Config, isStation, neighbours, limitAt, allowanceAt}
+use Rattle.reset.specs.Config.{Config, isStation, neighbours, limitAt, allowanceAt, sizeFits, allowanceFits, allowancesFit, wellMade}
 use Rattle.reset.specs.Clock.{vector}
 use Rattle.reset.specs.State.{Mode, normal, mute, standBy, Station, State, stationAt, linkAt}
 use Rattle.reset.specs.Steps.{Step, Answer, refused, Outcome, refuse, step}
 use Rattle.reset.specs.WellFormed.{wellFormed}
+use Rattle.reset.specs.Formed.{formed-of}
+use Rattle.reset.specs.ConfigLaws.{shape}
 use Rattle.rules.specs.Setup.{headerConfig, blockConfig}
 use Rattle.station.specs.Image.{parseStation}
 use Rattle.station.specs.View.{modeView, stationView}
@@ -103,3 +106,21 @@ module _ (a : List ℕ) (b : AreBytes a) (w : test a ≡ true) where
   -- ---- a station
   pub station-is : (i : ℕ) → i < 8 → (x : CodeStation) → stationView x ≡ parseStation (stationBytes a i) → stationAt (stateAt a) i ≡ stationView x
   station-is i l x e = station-read a i l ∙ sym e
+
+  -- ---- ranges
+  made : wellMade (configAt a) ≡ true
+  made = both (wellMade (configAt a)) _ (formed-of (configAt a) (stateAt a) well-formed .accepted) .0
+
+  pub shape-t : configAt a .t ≤ 65535
+  shape-t = shape (configAt a) made .ceiling
+
+  pub limit-small : (i j : ℕ) → i < 8 → j < 8 → limit (configAt a .limits) i j ≤ 32
+  limit-small i j il jl = shape (configAt a) made .limit32 i j il jl
+
+  pub allowance-small : (h : Header) → h ≡ parseHeader (take 512 a) → (i : ℕ) → i < 8 → getD (h .allowances) i 0 ≤ 65535
+  unfolding wellMade allowancesFit configAt
+  allowance-small h e i l =
+      let p = both (sizeFits (configAt a .n) (configAt a .t)) _ made in
+      let q = both (allowancesFit (configAt a .allowances)) _ (p .1) in
+      let r = both (eqb (length (configAt a .allowances)) 8) _ (q .0) in
+      rw e (leb-true _ _ (every-at 8 (allowanceFits (configAt a .allowances)) i (r .1) l))

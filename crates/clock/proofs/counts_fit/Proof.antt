@@ -12,10 +12,10 @@ use Rattle.clock.proofs.counts_fit.Statement.{statement}
 use Rattle.clock.proofs.counts_fit.Tie as tie
 
 abbrev Inv-loop : tie.InvT-loop
-Inv-loop n t a ok₀ k₀ ok k = (k ≤ 8) × (ok ≡ every k (λ (j : ℕ). leb (getD a j 0) (ceilingOf n t j)))
+Inv-loop n t a ok₀ j₀ ok j = (j ≤ 8) × (ok ≡ every j (λ (k : ℕ). leb (getD a k 0) (ceilingOf n t k)))
 
 abbrev μ-loop : tie.MeasureT-loop
-μ-loop n t a ok₀ k₀ ok k = 8 - k
+μ-loop n t a ok₀ j₀ ok j = 8 - j
 
 loop-holds : tie.Need-loop-holds Inv-loop μ-loop
 loop-holds c = (omega arith, sym (every-none _))
@@ -32,8 +32,8 @@ array-read-ok c = search needs
 ceiling-requires : tie.Need-ceiling-requires Inv-loop μ-loop
 ceiling-requires c κs = search needs
 
-add-k : tie.Need-add-k Inv-loop μ-loop
-add-k c = omega arith
+add-j : tie.Need-add-j Inv-loop μ-loop
+add-j c = omega arith
 
 loop-less : tie.Need-loop-less Inv-loop μ-loop
 loop-less c = omega arith
@@ -44,7 +44,7 @@ loop-again c = (omega arith, rw (every-turn, c .before .before .loop .inv .1, c 
 returns : tie.Need-returns Inv-loop μ-loop
 unfolding countsFit
 returns c =
-    let e : c .before .loop .k ≡ 8 = omega arith in
+    let e : c .before .loop .j ≡ 8 = omega arith in
     rw e at (c .before .loop .inv .1)
 
 pub counts-fit-spec : {M : Type 1} → statement M
@@ -58,7 +58,7 @@ counts-fit-spec =
     mul-ok
     array-read-ok
     ceiling-requires
-    add-k
+    add-j
     loop-less
     loop-again
     returns)

@@ -1,0 +1,182 @@
+-- Concurrent records of an archive: the relation, its lists, and the verdict by numbers. Assumes nothing.
+use Prim.Native.Nat.{ℕ, _≤_, _<_}
+use mathlib.Core.Path.{_≡_, refl, _∙_, sym}
+use mathlib.Core.Logic.{_↔_}
+use mathlib.Core.List.{List, List·Memᴰ}
+use mathlib.Core.Bool.{Bool, true, false, _&&_, cond, and-false, true≢false}
+use native.Mathlib.Omega.{arith}
+use lib.Dec.{eqb, ltb}
+use lib.ListN.{length, getD, length-append, length-drop}
+use borrow.Author.Tests.{eqb-true, eqb-false, ltb-true, ltb-false, lt-ltb, eq-eqb, ne-eqb}
+use Rattle.codec.proofs.EveryLaws.{both, every-of}
+use Rattle.clock.specs.Timestamp.{Less}
+use Rattle.clock.specs.Order.{sameAt, sameCounts, verdictOf, mirror}
+use Rattle.clock.specs.declared.Verdict.{Verdict}
+use Rattle.clock.specs.declared.Verdict.the-variants.{Before, After, Same, Unordered}
+use Rattle.clock.proofs.OrderLaws.{verdict-mirror, verdict-unordered}
+use Rattle.record.specs.declared.Record.{Record}
+use Rattle.archive.specs.Archive.{archiveTest, records, recordAt, findRecord, foundRecord}
+use Rattle.verdict.specs.Compare.{verdictOn, verdictOfBytes}
+use Rattle.verdict.specs.declared.Compared.the-variants.{Ordered, Refused}
+use Rattle.concurrent.specs.Unordered.{eventAt, isUnorderedVerdict, concurrent, isUnordered, countBelow, unorderedCount, unorderedAnswer, Lists}
+use Rattle.concurrent.specs.ByNumber.{orderOf}
+use Rattle.concurrent.specs.declared.Listed.the-variants.{Count}
+use Rattle.concurrent.specs.declared.Listed.the-variants as listed
+use Rattle.archive.proofs.Tested.{record-well-made}
+use Rattle.concurrent.proofs.Below.{passing, passing-length, passing-members, passing-once, count-room, count-fewer, Filled}
+
+-- ---- two events
+unordered-verdict : (v : Verdict) → isUnorderedVerdict v ≡ true → v ≡ Unordered
+unordered-verdict Before h = absurd (true≢false (sym h))
+unordered-verdict After h = absurd (true≢false (sym h))
+unordered-verdict Same h = absurd (true≢false (sym h))
+unordered-verdict Unordered h = refl
+
+mirrored : (v : Verdict) → isUnorderedVerdict (mirror v) ≡ isUnorderedVerdict v
+mirrored Before = refl
+mirrored After = refl
+mirrored Same = refl
+mirrored Unordered = refl
+
+eqb-swap : (m n : ℕ) → eqb m n ≡ eqb n m
+eqb-swap m n = go (eqb n m) refl
+  where
+    go : (t : Bool) → eqb n m ≡ t → eqb m n ≡ t
+    go true e = eq-eqb m n (sym (eqb-true n m e))
+    go false e = ne-eqb m n (λ (q : m ≡ n). eqb-false n m e (sym q))
+
+-- concurrent both ways
+pub concurrent-symmetric : (x y : Record) → concurrent x y ≡ concurrent y x
+unfolding concurrent
+concurrent-symmetric x y = rw (eqb-swap (x .phase) (y .phase), verdict-mirror (y .counts) (x .counts), mirrored (verdictOf (y .counts) (x .counts)))
+
+same-itself : (v : List ℕ) → verdictOf v v ≡ Same
+unfolding verdictOf sameCounts
+same-itself v = rw (every-of 8 (sameAt v v) (λ (k : ℕ) (l : k < 8). eq-eqb (getD v k 0) (getD v k 0) refl))
+
+-- not with itself
+pub concurrent-irreflexive : (x : Record) → concurrent x x ≡ false
+unfolding concurrent
+concurrent-irreflexive x = rw (same-itself (x .counts)) (and-false (eqb (x .phase) (x .phase)))
+
+-- one phase, and neither timestamp is less than the other or the same
+pub concurrent-means : (x y : Record) → length (x .counts) ≡ 8 → length (y .counts) ≡ 8
+    → (concurrent x y ≡ true) ↔ ((x .phase ≡ y .phase) × (Less (x .counts) (y .counts) → ⊥) × (Less (y .counts) (x .counts) → ⊥) × (x .counts ≡ y .counts → ⊥))
+unfolding concurrent
+concurrent-means x y n m =
+    let u = verdict-unordered (x .counts) (y .counts) (omega arith) (omega arith) in (
+      λ (h : concurrent x y ≡ true).
+          let b = both (eqb (x .phase) (y .phase)) _ h in let d = u .0 (unordered-verdict _ (b .1)) in (eqb-true _ _ (b .0), d .0, d .1, d .2),
+      λ (h : (x .phase ≡ y .phase) × (Less (x .counts) (y .counts) → ⊥) × (Less (y .counts) (x .counts) → ⊥) × (x .counts ≡ y .counts → ⊥)).
+          rw (eq-eqb (x .phase) (y .phase) (h .0), u .1 (h .1, h .2, h .3)),
+    )
+
+-- ---- two records of an archive
+pub unordered-below : (a : List ℕ) (r k : ℕ) → isUnordered a r k ≡ true → k < records a
+unfolding isUnordered
+unordered-below a r k h = ltb-true _ _ (both (ltb k (records a)) _ h .0)
+
+pub unordered-is : (a : List ℕ) (r k : ℕ) → k < records a → isUnordered a r k ≡ concurrent (eventAt a r) (eventAt a k)
+unfolding isUnordered
+unordered-is a r k l = rw (lt-ltb _ _ l)
+
+-- as the code finds it out, from the two records that it read
+pub unordered-read : (a : List ℕ) (r k : ℕ) (x y : Record) (b : Bool) → k < records a → x ≡ eventAt a r → y ≡ eventAt a k → b ≡ concurrent x y → isUnordered a r k ≡ b
+unordered-read a r k x y b l e f g = rw (unordered-is a r k l, ← e, ← f) (sym g)
+
+eight-counts : (a : List ℕ) (k : ℕ) → length (eventAt a k .counts) ≡ 8
+unfolding eventAt
+eight-counts a k = refl
+
+-- one phase, and neither timestamp is less than the other or the same
+pub unordered-means : (a : List ℕ) (r k : ℕ) → k < records a
+    → (isUnordered a r k ≡ true)
+    ↔ ((eventAt a r .phase ≡ eventAt a k .phase) × (Less (eventAt a r .counts) (eventAt a k .counts) → ⊥)
+    × (Less (eventAt a k .counts) (eventAt a r .counts) → ⊥) × (eventAt a r .counts ≡ eventAt a k .counts → ⊥))
+unordered-means a r k l = rw (unordered-is a r k l) (concurrent-means (eventAt a r) (eventAt a k) (eight-counts a r) (eight-counts a k))
+
+pub unordered-symmetric : (a : List ℕ) (r k : ℕ) → r < records a → k < records a → isUnordered a r k ≡ isUnordered a k r
+unordered-symmetric a r k l m = unordered-is a r k m ∙ concurrent-symmetric (eventAt a r) (eventAt a k) ∙ sym (unordered-is a k r l)
+
+pub unordered-irreflexive : (a : List ℕ) (r : ℕ) → isUnordered a r r ≡ false
+unfolding isUnordered
+unordered-irreflexive a r = rw (concurrent-irreflexive (eventAt a r)) (and-false (ltb r (records a)))
+
+-- ---- the list
+-- it has fewer records than the archive
+pub unordered-fewer : (a : List ℕ) (r : ℕ) → r < records a → unorderedCount a r < records a
+unfolding unorderedCount
+unordered-fewer a r l = count-fewer (isUnordered a r) r (records a) (unordered-irreflexive a r) l
+
+-- a record is never in its own list
+pub never-itself : (a : List ℕ) (r : ℕ) (before after : List ℕ) (n : ℕ) (l : Lists a r before after n) → List·Memᴰ r (l .listed) → ⊥
+never-itself a r before after n l m = true≢false (sym (l .members r .0 m) ∙ unordered-irreflexive a r)
+
+-- no place is added or lost
+pub same-places : (a : List ℕ) (r : ℕ) (before after : List ℕ) (n : ℕ) → Lists a r before after n → n ≤ length before → length after ≡ length before
+same-places a r before after n l f = rw (l .rest) (simp (length-append, length-drop) (omega (arith, l .many)))
+
+-- an answer that counts is of a list that fits
+pub count-fits : (a : List ℕ) (r places n : ℕ) → Count n ≡ unorderedAnswer a r places → n ≤ places
+unfolding unorderedAnswer
+count-fits a r places n e = go (archiveTest a) (ltb r (records a)) (ltb places (unorderedCount a r)) refl e
+  where
+    go : (t u v : Bool) → ltb places (unorderedCount a r) ≡ v
+        → Count n ≡ cond t (cond u (cond v (listed.Refused 11) (Count (unorderedCount a r))) (listed.Refused 12)) (listed.Refused 1) → n ≤ places
+    go false u v h q = let z : _≡_ {A = ℕ} 0 1 = cc in absurd (omega arith)
+    go true false v h q = let z : _≡_ {A = ℕ} 0 1 = cc in absurd (omega arith)
+    go true true true h q = let z : _≡_ {A = ℕ} 0 1 = cc in absurd (omega arith)
+    go true true false h q = let z : n ≡ unorderedCount a r = cc in omega (arith, ltb-false places (unorderedCount a r) h)
+
+-- a list that is long enough has a place for each
+pub unordered-room : (a : List ℕ) (r k m : ℕ) → isUnordered a r k ≡ true → unorderedCount a r ≤ m → countBelow k (isUnordered a r) < m
+unfolding unorderedCount
+unordered-room a r k m e h = count-room (isUnordered a r) k (records a) m e (unordered-below a r k e) h
+
+-- the numbers in rising order are such a list
+pub rising-lists : (a : List ℕ) (r : ℕ) (before after : List ℕ) (i : ℕ) → Filled (isUnordered a r) before (records a) i after → Lists a r before after (unorderedCount a r)
+unfolding unorderedCount
+rising-lists a r before after i w =
+    let p = isUnordered a r in
+    let n : length (passing (records a) p) ≡ countBelow (records a) p = passing-length p (records a) in
+    record {
+      listed = passing (records a) p;
+      many = n;
+      counted = refl;
+      members = λ (k : ℕ). (
+        λ (m : List·Memᴰ k (passing (records a) p)). passing-members p (records a) k .0 m .1,
+        λ (h : p k ≡ true). passing-members p (records a) k .1 (unordered-below a r k h, h),
+      );
+      once = λ (i j : ℕ) (f : i < countBelow (records a) p) (g : j < countBelow (records a) p). passing-once p (records a) i j (omega arith) (omega arith);
+      rest = rw (← w .place) (w .is);
+    }
+
+-- ---- the verdict by numbers
+pub found-is : (a : List ℕ) (k : ℕ) → archiveTest a ≡ true → k < records a → foundRecord a k ≡ recordAt a k
+unfolding foundRecord findRecord
+found-is a k t l = rw (t, lt-ltb k (records a) l)
+
+-- on a tested archive, by phases and counts
+pub order-is : (a : List ℕ) (i j : ℕ) → archiveTest a ≡ true → i < records a → j < records a
+    → orderOf a i j ≡ cond (eqb (eventAt a i .phase) (eventAt a j .phase)) (Ordered (verdictOf (eventAt a i .counts) (eventAt a j .counts))) (Refused 10)
+unfolding orderOf verdictOn verdictOfBytes eventAt
+order-is a i j t l m =
+    rw (t, lt-ltb i (records a) l, lt-ltb j (records a) m, found-is a i t l, found-is a j t m, record-well-made a t i l, record-well-made a t j m)
+
+-- records of one phase: the verdict on their timestamps
+pub order-one-phase : (a : List ℕ) (i j : ℕ) → archiveTest a ≡ true → i < records a → j < records a → eventAt a i .phase ≡ eventAt a j .phase
+    → orderOf a i j ≡ Ordered (verdictOf (eventAt a i .counts) (eventAt a j .counts))
+order-one-phase a i j t l m e = order-is a i j t l m ∙ rw (eq-eqb _ _ e)
+
+-- of two phases: 10
+pub order-two-phases : (a : List ℕ) (i j : ℕ) → archiveTest a ≡ true → i < records a → j < records a → (eventAt a i .phase ≡ eventAt a j .phase → ⊥) → orderOf a i j ≡ Refused 10
+order-two-phases a i j t l m d = order-is a i j t l m ∙ rw (ne-eqb _ _ d)
+
+-- a record is listed exactly when the verdict by numbers is unordered
+pub listed-by-order : (a : List ℕ) (r k : ℕ) → archiveTest a ≡ true → r < records a → k < records a → (isUnordered a r k ≡ true) ↔ (orderOf a r k ≡ Ordered Unordered)
+unfolding concurrent
+listed-by-order a r k t l m = rw (unordered-is a r k m, order-is a r k t l m) (go (eqb (eventAt a r .phase) (eventAt a k .phase)) (verdictOf (eventAt a r .counts) (eventAt a k .counts)))
+  where
+    go : (e : Bool) (v : Verdict) → ((e && isUnorderedVerdict v) ≡ true) ↔ (cond e (Ordered v) (Refused 10) ≡ Ordered Unordered)
+    go true v = (λ (h : isUnorderedVerdict v ≡ true). rw (unordered-verdict v h), λ (h : Ordered v ≡ Ordered Unordered). let q : v ≡ Unordered = cc in rw q)
+    go false v = (λ (h : false ≡ true). absurd (true≢false (sym h)), λ (h : Refused 10 ≡ Ordered Unordered). let z : _≡_ {A = ℕ} 0 1 = cc in absurd (omega arith))
