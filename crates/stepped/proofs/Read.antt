@@ -2,7 +2,7 @@
 use Prim.Native.Nat.{ℕ, _+_, _*_, _≤_, _<_}
 use mathlib.Core.Path.{_≡_, refl, sym, _∙_, ap}
 use mathlib.Core.List.{List, [], _∷_}
-use mathlib.Core.Bool.{Bool, true, false, not}
+use mathlib.Core.Bool.{Bool, true, false, not, _&&_}
 use native.Mathlib.Omega.{arith}
 use lib.Dec.{ltb, eqb}
 use lib.ListN.{length, getD, take}
@@ -29,6 +29,8 @@ use Rattle.area.specs.Layout.{image, stationBytes, configAt, stateAt, test}
 use Rattle.area.proofs.Formed.{Tested, tested, formed, formed-fits, station-read}
 use Rattle.stepped.specs.Answers.{steppedOf, noRecord, modeCode}
 use Rattle.stepped.specs.Formed.{Does}
+use Rattle.stepped.specs.Link.{isLinked}
+use Rattle.stepped.proofs.LinkLaws.{is-linked}
 use Rattle.stepped.specs.declared.Answer.the-variants.{Refused}
 use Rattle.stepped.specs.declared.Stepped.{Stepped}
 
@@ -124,3 +126,15 @@ module _ (a : List ℕ) (b : AreBytes a) (w : test a ≡ true) where
       let q = both (allowancesFit (configAt a .allowances)) _ (p .1) in
       let r = both (eqb (length (configAt a .allowances)) 8) _ (q .0) in
       rw e (leb-true _ _ (every-at 8 (allowanceFits (configAt a .allowances)) i (r .1) l))
+
+  pub n-small : (h : Header) → h ≡ parseHeader (take 512 a) → h .n ≤ 8
+  n-small h e = omega (arith, n-is h e, shape (configAt a) made .small)
+
+  -- the table's limit, and the code's test of a link
+  pub limit-of : (m : List (List ℕ)) → m ≡ tableAt 8 (take 512 a) 32 → (i j : ℕ) → limit (configAt a .limits) i j ≡ getD (getD m i []) j 0
+  unfolding limit
+  limit-of m e i j = ap (λ (x : List (List ℕ)). getD (getD x i []) j 0) (limits-are m e)
+
+  pub linked-is : (h : Header) → h ≡ parseHeader (take 512 a) → (m : List (List ℕ)) → m ≡ tableAt 8 (take 512 a) 32 → (i j : ℕ)
+      → isLinked (h .n) m i j ≡ (isStation (configAt a) i && neighbours (configAt a) i j)
+  linked-is h e m f i j = rw (← n-is h e, ← limits-are m f) (is-linked (configAt a) made i j)

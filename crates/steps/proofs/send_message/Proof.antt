@@ -1,0 +1,71 @@
+use Prim.Native.Nat.{ℕ, suc, _+_, _*_, _-_, _≤_, _<_}
+use mathlib.Core.Path.{_≡_, refl, _∙_, sym, ap}
+use native.Mathlib.Omega.{arith}
+use mathlib.Core.List.{List, [], _∷_, _++_}
+use Rattle.clock.specs.Timestamp.{tick}
+use Rattle.reset.specs.Clock.{vector}
+use Rattle.reset.specs.State.{Item as NetworkItem, message, Station as NetworkStation, linkAt, setStation, setLink, putOn}
+use Rattle.reset.specs.Views.{link-set-station}
+use Rattle.reset.specs.Steps.{entry, entryOf, sending}
+use Rattle.station.specs.View.{stationView}
+use Rattle.link.specs.Image.{itemOf}
+use Rattle.turning.proofs.TurnLaws.{set-link-set}
+use Rattle.area.specs.Layout.{image}
+use Rattle.stepped.specs.Answers.{steppedOf}
+use borrow.Author.Needs.{needs}
+use Rattle.steps.proofs.send_message.Statement.{statement}
+use Rattle.steps.proofs.send_message.Tie as tie
+
+sending-requires : tie.Need-sending-requires
+sending-requires c κs = search needs
+
+push-at-requires : tie.Need-push-at-requires
+push-at-requires c κs = search needs
+
+put-station-requires : tie.Need-put-station-requires
+put-station-requires c κs = search needs
+
+cast-entry : tie.Need-cast-entry
+cast-entry c = search needs
+
+cast-entry-2 : tie.Need-cast-entry-2
+cast-entry-2 c = search needs
+
+entry-requires : tie.Need-entry-requires
+entry-requires c κs = search needs
+
+same-length : tie.Need-same-length
+same-length c = search needs
+
+returns : tie.Need-returns
+unfolding itemOf
+returns c =
+    let g = c .before .before .before .before .before .before .before .before .before .before .before .before .args in
+    let i : ℕ = g .i in
+    let j : ℕ = g .j in
+    let x : NetworkStation vector = stationView (g .s) in
+    let z : stationView (c .before .before .before .before .before .before .before .before .before .before .sending .result) ≡ sending i j x = c .before .before .before .before .before .before .before .before .before .before .sending .ensures in
+    let v : c .before .before .before .before .before .before .before .before .before .before .sending .result .counts ≡ tick i (x .time) = ap (λ (q : NetworkStation vector). q .time) z in
+    record {
+      answer = c .entry .ensures ∙ ap (λ (q : NetworkStation vector). steppedOf (entry (entryOf 2 i j (g .register) q))) z;
+      area = λ d s e.
+          c .before .before .before .put-station .ensures d _ (c .before .before .before .before .before .before .before .push-at .ensures d s e)
+          ∙ ap (λ (q : NetworkStation vector). image d (setStation (putOn s i j (message (c .before .before .before .before .before .before .before .before .before .before .sending .result .counts) (g .register))) i q)) z
+          ∙ ap (λ (q : List ℕ). image d (setStation (putOn s i j (message q (g .register))) i (sending i j x))) v
+          ∙ ap (image d) (sym (set-link-set s i j i (linkAt s i j ++ (message (tick i (x .time)) (g .register) ∷ [])) (sending i j x)))
+          ∙ ap (λ (l : List (NetworkItem vector)). image d (setLink (setStation s i (sending i j x)) i j (l ++ (message (tick i (x .time)) (g .register) ∷ []))))
+          (sym (link-set-station s i (sending i j x) i j));
+    }
+
+pub send-message-spec : {M : Type 1} → statement M
+send-message-spec =
+    tie.close
+    (tie.spec
+    sending-requires
+    push-at-requires
+    put-station-requires
+    cast-entry
+    cast-entry-2
+    entry-requires
+    same-length
+    returns)
