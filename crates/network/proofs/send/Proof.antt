@@ -1,0 +1,45 @@
+use mathlib.Core.Path.{_≡_, sym, _∙_}
+use denote.Ref.{now}
+use borrow.Author.Tests.{not-true, not-false}
+use Rattle.reset.specs.Steps.{send as Send}
+use Rattle.network.proofs.Laws.{refused-two, done}
+use borrow.Author.Needs.{needs}
+use Rattle.network.proofs.send.Statement.{statement}
+use Rattle.network.proofs.send.Tie as tie
+
+well-formed-requires : tie.Need-well-formed-requires
+well-formed-requires c κs = search needs
+
+refused-requires : tie.Need-refused-requires
+refused-requires c κs = search needs
+
+same-length : tie.Need-same-length
+same-length c = search needs
+
+returns : tie.Need-returns
+returns c =
+    let g = c .before .before .before .before .before .args in
+    refused-two (Send (g .station) (g .peer) (g .register)) (now (g .area)) (c .refused .result) (sym (c .before .before .well-formed .ensures) ∙ not-true _ (c .before .if1 .taken)) (c .refused .ensures)
+
+send-requires : tie.Need-send-requires
+send-requires c κs = sym (c .before .before .well-formed .ensures) ∙ not-false _ (c .before .if1 .left)
+
+same-length-2 : tie.Need-same-length-2
+same-length-2 c = search needs
+
+returns-2 : tie.Need-returns-2
+returns-2 c =
+    let g = c .before .before .before .before .before .before .before .before .args in
+    done (Send (g .station) (g .peer) (g .register)) (now (g .area)) (c .before .before .send .result) (c .before .before .send .last .0) (sym (c .before .before .before .before .before .well-formed .ensures) ∙ not-false _ (c .before .before .before .before .if1 .left)) (c .before .before .send .ensures)
+
+pub send-spec : {M : Type 1} → statement M
+send-spec =
+    tie.close
+    (tie.spec
+    well-formed-requires
+    refused-requires
+    same-length
+    returns
+    send-requires
+    same-length-2
+    returns-2)

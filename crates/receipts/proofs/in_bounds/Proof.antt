@@ -1,0 +1,43 @@
+use Prim.Native.Nat.{ℕ, _+_, _*_, _-_, _≤_, _<_}
+use mathlib.Core.Path.{_≡_, refl, _∙_, sym, ap, ap₂}
+use native.Mathlib.Omega.{arith}
+use mathlib.Core.List.{List, [], _∷_, _++_}
+use lib.ListN.{length, getD}
+use denote.Ref.{now}
+use Rattle.codec.specs.Num.{AreBytes}
+use Rattle.reset.specs.Config.{Config}
+use Rattle.reset.specs.Clock.{vector}
+use Rattle.reset.specs.State.{Item, message, resetReq, resetDone, Station, State, stationAt, linkAt, setLink}
+use Rattle.area.specs.Layout.{image, configAt, stateAt, test}
+use borrow.Author.Tests.{not-true, not-false}
+use mathlib.Core.Bool.{Bool, _&&_}
+use lib.Dec.{leb}
+use lib.ListN.{length-append}
+use Rattle.turning.specs.Slots.{itemOf}
+use Rattle.receipts.specs.Room.{roomBytes, inBoundsAfter}
+use borrow.Author.Needs.{needs}
+use Rattle.receipts.proofs.in_bounds.Statement.{statement}
+use Rattle.receipts.proofs.in_bounds.Tie as tie
+
+weight-requires : tie.Need-weight-requires
+weight-requires c κs = search needs
+
+weight-requires-2 : tie.Need-weight-requires-2
+weight-requires-2 c κs = search needs
+
+add-room : tie.Need-add-room
+add-room c = search needs
+
+room-requires : tie.Need-room-requires
+room-requires c κs = search needs
+
+returns : tie.Need-returns
+unfolding inBoundsAfter
+returns c =
+    let t = c .before .before .before .before .before .before .args .t in
+    let e : c .before .before .weight .result + c .before .weight2 .result ≡ length (itemOf (t .first) ++ itemOf (t .second)) = omega (arith, length-append (itemOf (t .first)) (itemOf (t .second)), c .before .before .weight .ensures .0, c .before .weight2 .ensures .0) in
+    ap (λ (b : Bool). leb (t .station .phase) 999999 && b) (c .room .ensures ∙ ap (roomBytes (now (c .before .before .before .before .before .before .args .area)) (c .before .before .before .before .before .before .args .row) (c .before .before .before .before .before .before .args .i)) e)
+
+pub in-bounds-spec : {M : Type 1} → statement M
+in-bounds-spec =
+    tie.close (tie.spec weight-requires weight-requires-2 add-room room-requires returns)

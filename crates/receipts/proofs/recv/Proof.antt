@@ -1,0 +1,160 @@
+use Prim.Native.Nat.{ℕ, _+_, _*_, _-_, _≤_, _<_}
+use mathlib.Core.Path.{_≡_, refl, _∙_, sym, ap, ap₂}
+use native.Mathlib.Omega.{arith}
+use mathlib.Core.List.{List, [], _∷_, _++_}
+use lib.ListN.{length, getD}
+use denote.Ref.{now}
+use Rattle.codec.specs.Num.{AreBytes}
+use Rattle.reset.specs.Config.{Config}
+use Rattle.reset.specs.Clock.{vector}
+use Rattle.reset.specs.State.{Item, message, resetReq, resetDone, Station, State, stationAt, linkAt, setLink}
+use Rattle.area.specs.Layout.{image, configAt, stateAt, test}
+use borrow.Author.Tests.{not-true, not-false}
+use mathlib.Core.Bool.{true, _&&_}
+use Rattle.codec.proofs.EveryLaws.{both}
+use Rattle.reset.specs.Config.{isStation, neighbours}
+use Rattle.reset.specs.Steps.{recv}
+use Rattle.bounds.specs.Outcome.{station-small, neighbour-small, recv-empty}
+use Rattle.stepped.proofs.Read.{long, well-formed, refuses, n-is}
+use Rattle.stepped.proofs.LinkLaws.{recv-unknown}
+use Rattle.receipts.proofs.Laws.{holds-none}
+use Rattle.receipts.proofs.StepLaws.{few, config-is, linked-is}
+use borrow.Author.Needs.{needs}
+use Rattle.receipts.proofs.recv.Statement.{statement}
+use Rattle.receipts.proofs.recv.Tie as tie
+
+sub-load : tie.Need-sub-load
+sub-load c = search needs
+
+part-load-start : tie.Need-part-load-start
+part-load-start c = search needs
+
+part-load-end : tie.Need-part-load-end
+part-load-end c =
+    let g = c .before .before in
+    let a : List ℕ = now (g .args .area) in
+    let bytes : AreBytes a = λ i. omega (arith, c .before .slice-known .given i) in
+    let l : length a ≡ 65536 = long a bytes (g .pre) in search needs
+
+load-requires : tie.Need-load-requires
+load-requires c κs = search needs
+
+sub-load-limits : tie.Need-sub-load-limits
+sub-load-limits c = search needs
+
+part-load-limits-start : tie.Need-part-load-limits-start
+part-load-limits-start c = search needs
+
+part-load-limits-end : tie.Need-part-load-limits-end
+part-load-limits-end c =
+    let g = c .before .before .before .before .before in
+    let a : List ℕ = now (g .args .area) in
+    let bytes : AreBytes a = λ i. omega (arith, c .before .before .before .before .slice-known .given i) in
+    let l : length a ≡ 65536 = long a bytes (g .pre) in search needs
+
+load-limits-requires : tie.Need-load-limits-requires
+load-limits-requires c κs = search needs
+
+linked-requires : tie.Need-linked-requires
+linked-requires c κs =
+    let g = c .before .before .before .before .before .before .before in
+    let a : List ℕ = now (g .args .area) in
+    let bytes : AreBytes a = λ i. omega (arith, c .before .before .before .before .before .before .slice-known .given i) in
+    let w : test a ≡ true = g .pre in
+    let f = c .load-limits .ensures in
+    let e = c .before .before .before .load .ensures in
+    omega (arith, few a bytes w, n-is a bytes w _ e)
+
+refused-requires : tie.Need-refused-requires
+refused-requires c κs = search needs
+
+same-length : tie.Need-same-length
+same-length c = search needs
+
+returns : tie.Need-returns
+returns c =
+    let g = c .before .before .before .before .before .before .before .before .before .before in
+    let a : List ℕ = now (g .args .area) in
+    let bytes : AreBytes a = λ i. omega (arith, c .before .before .before .before .before .before .before .before .before .slice-known .given i) in
+    let w : test a ≡ true = g .pre in
+    let f = c .before .before .before .load-limits .ensures in
+    let e = c .before .before .before .before .before .before .load .ensures in
+    refuses a bytes w (recv (g .args .station) (g .args .peer)) 4 _ (recv-unknown (configAt a) (stateAt a) (well-formed a bytes w) _ _ (sym (linked-is a bytes w _ _ e f _ _) ∙ sym (c .before .before .linked .ensures) ∙ not-true _ (c .before .if1 .taken))) (c .refused .ensures)
+
+count-at-requires : tie.Need-count-at-requires
+count-at-requires c κs =
+    let g = c .before .before .before .before .before .before .before .before .before .before in
+    let a : List ℕ = now (g .args .area) in
+    let bytes : AreBytes a = λ i. omega (arith, c .before .before .before .before .before .before .before .before .before .slice-known .given i) in
+    let w : test a ≡ true = g .pre in
+    let f = c .before .before .before .load-limits .ensures in
+    let e = c .before .before .before .before .before .before .load .ensures in
+    let k : (isStation (configAt a) (g .args .station) && neighbours (configAt a) (g .args .station) (g .args .peer)) ≡ true = sym (linked-is a bytes w _ _ e f _ _) ∙ sym (c .before .before .linked .ensures) ∙ not-false _ (c .before .if1 .left) in
+    let p = both (isStation (configAt a) (g .args .station)) _ k in
+    let il : g .args .station < 8 = station-small (configAt a) (stateAt a) (well-formed a bytes w) _ (p .0) in
+    let jl : g .args .peer < 8 = neighbour-small (configAt a) (stateAt a) (well-formed a bytes w) _ _ (p .1) in
+    (long a bytes w, jl, il)
+
+refused-requires-2 : tie.Need-refused-requires-2
+refused-requires-2 c κs = search needs
+
+same-length-2 : tie.Need-same-length-2
+same-length-2 c = search needs
+
+returns-2 : tie.Need-returns-2
+returns-2 c =
+    let g = c .before .before .before .before .before .before .before .before .before .before .before .before .before in
+    let a : List ℕ = now (g .args .area) in
+    let bytes : AreBytes a = λ i. omega (arith, c .before .before .before .before .before .before .before .before .before .before .before .before .slice-known .given i) in
+    let w : test a ≡ true = g .pre in
+    let f = c .before .before .before .before .before .before .load-limits .ensures in
+    let e = c .before .before .before .before .before .before .before .before .before .load .ensures in
+    let k : (isStation (configAt a) (g .args .station) && neighbours (configAt a) (g .args .station) (g .args .peer)) ≡ true = sym (linked-is a bytes w _ _ e f _ _) ∙ sym (c .before .before .before .before .before .linked .ensures) ∙ not-false _ (c .before .before .before .before .if1 .left) in
+    let p = both (isStation (configAt a) (g .args .station)) _ k in
+    let il : g .args .station < 8 = station-small (configAt a) (stateAt a) (well-formed a bytes w) _ (p .0) in
+    let jl : g .args .peer < 8 = neighbour-small (configAt a) (stateAt a) (well-formed a bytes w) _ _ (p .1) in
+    refuses a bytes w (recv (g .args .station) (g .args .peer)) 7 _ (recv-empty (configAt a) (stateAt a) (well-formed a bytes w) _ _ (p .0) (p .1) (holds-none a _ _ jl il (sym (c .before .before .count-at .ensures) ∙ c .before .if2 .taken))) (c .refused2 .ensures)
+
+take-requires : tie.Need-take-requires
+take-requires c κs =
+    let g = c .before .before .before .before .before .before .before .before .before .before .before .before .before in
+    let a : List ℕ = now (g .args .area) in
+    let bytes : AreBytes a = λ i. omega (arith, c .before .before .before .before .before .before .before .before .before .before .before .before .slice-known .given i) in
+    let w : test a ≡ true = g .pre in
+    let f = c .before .before .before .before .before .before .load-limits .ensures in
+    let e = c .before .before .before .before .before .before .before .before .before .load .ensures in
+    let k : (isStation (configAt a) (g .args .station) && neighbours (configAt a) (g .args .station) (g .args .peer)) ≡ true = sym (linked-is a bytes w _ _ e f _ _) ∙ sym (c .before .before .before .before .before .linked .ensures) ∙ not-false _ (c .before .before .before .before .if1 .left) in
+    let p = both (isStation (configAt a) (g .args .station)) _ k in
+    let il : g .args .station < 8 = station-small (configAt a) (stateAt a) (well-formed a bytes w) _ (p .0) in
+    let jl : g .args .peer < 8 = neighbour-small (configAt a) (stateAt a) (well-formed a bytes w) _ _ (p .1) in
+    (record { tested = w; station = p .0; neighbour = p .1; some = omega (arith, c .before .before .count-at .ensures, c .before .if2 .left) }, config-is a bytes w _ _ e f)
+
+same-length-3 : tie.Need-same-length-3
+same-length-3 c = search needs
+
+returns-3 : tie.Need-returns-3
+returns-3 c = search needs
+
+pub recv-spec : {M : Type 1} → statement M
+recv-spec =
+    tie.close
+    (tie.spec
+    sub-load
+    part-load-start
+    part-load-end
+    load-requires
+    sub-load-limits
+    part-load-limits-start
+    part-load-limits-end
+    load-limits-requires
+    linked-requires
+    refused-requires
+    same-length
+    returns
+    count-at-requires
+    refused-requires-2
+    same-length-2
+    returns-2
+    take-requires
+    same-length-3
+    returns-3)

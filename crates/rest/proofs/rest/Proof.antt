@@ -1,0 +1,65 @@
+use mathlib.Core.Path.{_≡_, _∙_, sym}
+use native.Mathlib.Omega.{arith}
+use mathlib.Core.Bool.{true}
+use denote.Ref.{now}
+use borrow.Author.Tests.{not-true, not-false}
+use Rattle.area.specs.Layout.{test}
+use Rattle.area.proofs.Formed.{tested}
+use Rattle.calls.specs.Calls.{restOn}
+use Rattle.rest.proofs.Laws.{n-small, quiescent-is}
+use borrow.Author.Needs.{needs}
+use Rattle.rest.proofs.rest.Statement.{statement}
+use Rattle.rest.proofs.rest.Tie as tie
+
+well-formed-requires : tie.Need-well-formed-requires
+well-formed-requires c κs = search needs
+
+returns : tie.Need-returns
+unfolding restOn
+returns c = rw (sym (c .before .well-formed .ensures) ∙ not-true _ (c .if1 .taken))
+
+sub-load : tie.Need-sub-load
+sub-load c = search needs
+
+part-load-start : tie.Need-part-load-start
+part-load-start c = search needs
+
+part-load-end : tie.Need-part-load-end
+part-load-end c = omega (arith, tested _ (sym (c .before .well-formed .ensures) ∙ not-false _ (c .if1 .left)) .long)
+
+load-requires : tie.Need-load-requires
+load-requires c κs = search needs
+
+quiescent-requires : tie.Need-quiescent-requires
+quiescent-requires c κs =
+    let a = now (c .before .before .before .before .before .args .area) in
+    let w : test a ≡ true = sym (c .before .before .before .well-formed .ensures) ∙ not-false _ (c .before .before .if1 .left) in
+    (tested a w .long, n-small a w (c .load .result) (c .load .ensures))
+
+returns-2 : tie.Need-returns-2
+unfolding restOn
+returns-2 c =
+    let a = now (c .before .before .before .before .before .before .before .args .area) in
+    let w : test a ≡ true = sym (c .before .before .before .before .before .well-formed .ensures) ∙ not-false _ (c .before .before .before .before .if1 .left) in
+    rw (w, quiescent-is a w (c .before .before .load .result) (c .before .before .load .ensures) ∙ sym (c .before .quiescent .ensures) ∙ c .if2 .taken)
+
+returns-3 : tie.Need-returns-3
+unfolding restOn
+returns-3 c =
+    let a = now (c .before .before .before .before .before .before .before .args .area) in
+    let w : test a ≡ true = sym (c .before .before .before .before .before .well-formed .ensures) ∙ not-false _ (c .before .before .before .before .if1 .left) in
+    rw (w, quiescent-is a w (c .before .before .load .result) (c .before .before .load .ensures) ∙ sym (c .before .quiescent .ensures) ∙ c .if2 .left)
+
+pub rest-spec : {M : Type 1} → statement M
+rest-spec =
+    tie.close
+    (tie.spec
+    well-formed-requires
+    returns
+    sub-load
+    part-load-start
+    part-load-end
+    load-requires
+    quiescent-requires
+    returns-2
+    returns-3)

@@ -1,0 +1,90 @@
+use Prim.Native.Nat.{_+_, _*_, _-_, _≤_}
+use mathlib.Core.Path.{_≡_, refl, _∙_, sym, ap}
+use native.Mathlib.Omega.{arith}
+use denote.Ref.{now}
+use lib.ListN.{length, length-take, length-drop}
+use Rattle.codec.specs.Splice.{splice}
+use Rattle.codec.proofs.SpliceLaws.{splice-none, splice-length}
+use Rattle.setup.specs.Limits.{freshStations}
+use Rattle.setup.proofs.Laws.{fresh-none, fresh-length, station-turn}
+use Rattle.station.specs.Image.{imageStation}
+use Rattle.setup.proofs.put_stations.Statement.{statement}
+use Rattle.setup.proofs.put_stations.Tie as tie
+
+abbrev Inv-loop : tie.InvT-loop
+Inv-loop area₀ limits i₀ area i = (i ≤ 8) × (length area ≡ length area₀) × (area ≡ splice area₀ 512 (freshStations limits i))
+
+abbrev μ-loop : tie.MeasureT-loop
+μ-loop area₀ limits i₀ area i = 8 - i
+
+loop-holds : tie.Need-loop-holds Inv-loop μ-loop
+loop-holds c =
+    let a = c .before .args in
+    (omega arith, refl, sym (ap (splice (now (a .area)) 512) (fresh-none (a .limits)) ∙ splice-none (now (a .area)) 512))
+
+mul-o : tie.Need-mul-o Inv-loop μ-loop
+mul-o c = omega arith
+
+add-o : tie.Need-add-o Inv-loop μ-loop
+add-o c = omega arith
+
+add-e : tie.Need-add-e Inv-loop μ-loop
+add-e c = omega arith
+
+fresh-station-requires : tie.Need-fresh-station-requires Inv-loop μ-loop
+fresh-station-requires c κs = omega arith
+
+sub-store : tie.Need-sub-store Inv-loop μ-loop
+sub-store c = omega arith
+
+part-store-start : tie.Need-part-store-start Inv-loop μ-loop
+part-store-start c = omega arith
+
+part-store-end : tie.Need-part-store-end Inv-loop μ-loop
+part-store-end c = omega arith
+
+store-requires : tie.Need-store-requires Inv-loop μ-loop
+store-requires c κs = simp (length-take, length-drop) (omega arith)
+
+add-i : tie.Need-add-i Inv-loop μ-loop
+add-i c = omega arith
+
+loop-less : tie.Need-loop-less Inv-loop μ-loop
+loop-less c = omega arith
+
+loop-again : tie.Need-loop-again Inv-loop μ-loop
+loop-again c =
+    let l = c .before .before .before .before .before .before .loop in
+    let a = c .before .before .before .before .before .before .before .before .args in
+    let e : 512 + l .i * 47 + 47 - (512 + l .i * 47) ≡ 47 = omega arith in
+    let t = station-turn (now (a .area)) (l .area) _ (a .limits) (l .i) (512 + l .i * 47 + 47) (omega arith) (c .before .before .before .before .before .before .before .before .pre) (l .inv .2) e
+    (c .before .before .store .ensures ∙ ap imageStation (c .before .before .before .before .fresh-station .ensures)) in
+    let s = fresh-length (a .limits) (l .i + 1) in
+    (omega arith, ap length t ∙ splice-length (now (a .area)) 512 (freshStations (a .limits) (l .i + 1)) (omega arith), t)
+
+same-length : tie.Need-same-length Inv-loop μ-loop
+same-length c = omega arith
+
+returns : tie.Need-returns Inv-loop μ-loop
+returns c = let e : c .before .loop .i ≡ 8 = omega arith in rw e at (c .before .loop .inv .2)
+
+pub put-stations-spec : {M : Type 1} → statement M
+put-stations-spec =
+    tie.close
+    (tie.spec
+    Inv-loop
+    μ-loop
+    loop-holds
+    mul-o
+    add-o
+    add-e
+    fresh-station-requires
+    sub-store
+    part-store-start
+    part-store-end
+    store-requires
+    add-i
+    loop-less
+    loop-again
+    same-length
+    returns)
