@@ -1,71 +1,52 @@
 use borrow.Author.Needs.{needs}
 use Rattle.codec.proofs.get_row.Statement.{statement}
 use Rattle.codec.proofs.get_row.Tie as tie
-use Rattle.codec.proofs.get_row.Reads as reads
-use Rattle.codec.proofs.get_row.Lts as lts
-use Rattle.codec.proofs.get16.Reads as get16-reads
 
--- src/lib.rt:63:13
 add-b : tie.Need-add-b
 add-b c = search needs
 
--- src/lib.rt:64:13
 add-c : tie.Need-add-c
 add-c c = search needs
 
--- src/lib.rt:65:13
 add-d : tie.Need-add-d
 add-d c = search needs
 
--- src/lib.rt:66:13
 add-e : tie.Need-add-e
 add-e c = search needs
 
--- src/lib.rt:67:13
 add-f : tie.Need-add-f
 add-f c = search needs
 
--- src/lib.rt:68:13
 add-g : tie.Need-add-g
 add-g c = search needs
 
--- src/lib.rt:69:13
 add-h : tie.Need-add-h
 add-h c = search needs
 
--- src/lib.rt:71:9
 get16-requires : tie.Need-get16-requires
 get16-requires c κs = search needs
 
--- src/lib.rt:72:9
 get16-requires-2 : tie.Need-get16-requires-2
 get16-requires-2 c κs = search needs
 
--- src/lib.rt:73:9
 get16-requires-3 : tie.Need-get16-requires-3
 get16-requires-3 c κs = search needs
 
--- src/lib.rt:74:9
 get16-requires-4 : tie.Need-get16-requires-4
 get16-requires-4 c κs = search needs
 
--- src/lib.rt:75:9
 get16-requires-5 : tie.Need-get16-requires-5
 get16-requires-5 c κs = search needs
 
--- src/lib.rt:76:9
 get16-requires-6 : tie.Need-get16-requires-6
 get16-requires-6 c κs = search needs
 
--- src/lib.rt:77:9
 get16-requires-7 : tie.Need-get16-requires-7
 get16-requires-7 c κs = search needs
 
--- src/lib.rt:78:9
 get16-requires-8 : tie.Need-get16-requires-8
 get16-requires-8 c κs = search needs
 
--- src/lib.rt:59:1
 returns : tie.Need-returns
 returns c = cc
 

@@ -3,32 +3,23 @@ use Rattle.record.specs.Record.{recordFits}
 use borrow.Author.Needs.{needs}
 use Rattle.record.proofs.record_fits.Statement.{statement}
 use Rattle.record.proofs.record_fits.Tie as tie
-use Rattle.record.proofs.record_fits.Reads as reads
-use Rattle.record.proofs.record_fits.Lts as lts
-use Rattle.record.proofs.peer_fits.Reads as peer-fits-reads
 
--- src/lib.rt:32:9
 returns : tie.Need-returns
 unfolding recordFits
 returns c = rw (le-ltb _ 8 (c .if1 .taken))
 
--- src/lib.rt:34:13
 cast-i : tie.Need-cast-i
 cast-i c = search needs
 
--- src/lib.rt:36:5
 peer-fits-requires : tie.Need-peer-fits-requires
 peer-fits-requires c κs = search needs
 
--- src/lib.rt:36:71
 mul-result : tie.Need-mul-result
 mul-result c = search needs
 
--- src/lib.rt:36:71
 array-read-result : tie.Need-array-read-result
 array-read-result c = search needs
 
--- src/lib.rt:27:1
 returns-2 : tie.Need-returns-2
 unfolding recordFits
 returns-2 c = rw (lt-ltb _ 8 (c .before .before .before .if1 .left)) (cc)

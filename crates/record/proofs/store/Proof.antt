@@ -11,37 +11,25 @@ use Rattle.record.specs.Record.{imageRecord}
 use borrow.Author.Needs.{needs}
 use Rattle.record.proofs.store.Statement.{statement}
 use Rattle.record.proofs.store.Tie as tie
-use Rattle.record.proofs.store.Reads as reads
-use Rattle.record.proofs.store.Lts as lts
-use Rattle.codec.proofs.put32.Reads as put32-reads
-use Rattle.codec.proofs.put_row.Reads as put-row-reads
-use Rattle.record.proofs.store_front.Reads as store-front-reads
 
--- src/lib.rt:78:5
 store-front-requires : tie.Need-store-front-requires
 store-front-requires c κs = search needs
 
--- src/lib.rt:79:5
 put32-requires : tie.Need-put32-requires
 put32-requires c κs = search needs
 
--- src/lib.rt:80:5
 put32-requires-2 : tie.Need-put32-requires-2
 put32-requires-2 c κs = search needs
 
--- src/lib.rt:81:5
 put32-requires-3 : tie.Need-put32-requires-3
 put32-requires-3 c κs = search needs
 
--- src/lib.rt:82:5
 put-row-requires : tie.Need-put-row-requires
 put-row-requires c κs = search needs
 
--- src/lib.rt:73:1
 same-length : tie.Need-same-length
 same-length c = search needs
 
--- src/lib.rt:73:1
 returns : tie.Need-returns
 unfolding imageRecord
 returns c =

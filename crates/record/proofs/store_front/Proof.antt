@@ -6,30 +6,22 @@ use Rattle.codec.proofs.Stores.{stored}
 use borrow.Author.Needs.{needs}
 use Rattle.record.proofs.store_front.Statement.{statement}
 use Rattle.record.proofs.store_front.Tie as tie
-use Rattle.record.proofs.store_front.Reads as reads
-use Rattle.record.proofs.store_front.Lts as lts
 
--- src/lib.rt:66:5
 slice-write-d : tie.Need-slice-write-d
 slice-write-d c = search needs
 
--- src/lib.rt:67:5
 slice-write-d-2 : tie.Need-slice-write-d-2
 slice-write-d-2 c = simp length-set (omega arith)
 
--- src/lib.rt:68:5
 slice-write-d-3 : tie.Need-slice-write-d-3
 slice-write-d-3 c = simp length-set (omega arith)
 
--- src/lib.rt:69:5
 slice-write-d-4 : tie.Need-slice-write-d-4
 slice-write-d-4 c = simp length-set (omega arith)
 
--- src/lib.rt:62:1
 same-length : tie.Need-same-length
 same-length c = search needs
 
--- src/lib.rt:62:1
 returns : tie.Need-returns
 returns c = stored (c .args .kind ∷ c .args .station ∷ c .args .peer ∷ 0 ∷ []) (now (c .args .d)) 0 (omega arith)
 
