@@ -2,6 +2,7 @@
 ghost use mathlib.Core.Path.{_≡_};
 ghost use Prim.Native.Nat.{_+_, _*_, _/_, _<_, _≤_};
 ghost use lib.ListN.{length};
+use archive::Counted;
 use clock::Verdict;
 use concurrent::Listed;
 use header::Header;
@@ -274,31 +275,166 @@ fn spoilt(a: &mut [u8])
     refusals(&a[0..2048]);
 }
 
-// An archive of 945 records.
+// How many records the first bytes hold, or the refusal.
+fn total(a: &[u8], size: usize) {
+    if size > a.len() {
+        return;
+    }
+    match archive::count(&a[0..size]) {
+        Counted::Records(n) => {
+            say(b": records ", n);
+        }
+        Counted::Refused(k) => {
+            say(b": refused ", k as usize);
+        }
+    }
+    io::write_all(1, b"\n");
+}
+
+// Sets a byte of a block and seals it again; the answer is what stood there.
+fn reseal(d: &mut [u8], p: usize, x: u8) -> u8 {
+    if p >= d.len() {
+        return 0;
+    }
+    let old = d[p];
+    vectors::poke(d, p, x);
+    vectors::seal(d);
+    old
+}
+
+fn change(a: &mut [u8], b: usize, p: usize, x: u8) -> u8 {
+    if a.len() < 2048 {
+        return 0;
+    }
+    if b >= 4 {
+        return 0;
+    }
+    let o = b * 512;
+    let e = o + 512;
+    reseal(&mut a[o..e], p, x)
+}
+
+// Byte p of block b set to x and the block sealed again; then all is as before.
+fn harm(a: &mut [u8], b: usize, p: usize, x: u8) {
+    say(b"  block ", b);
+    say(b", byte ", p);
+    say(b" set to ", x as usize);
+    let old = change(a, b, p, x);
+    total(&a[..], 2048);
+    change(a, b, p, old);
+}
+
+// The header of 31 records: one station fewer, another t, links that some record names and that none does.
+fn header_cases(a: &mut [u8]) {
+    harm(a, 0, 1, 8);
+    harm(a, 0, 1, 7);
+    harm(a, 0, 2, 0);
+    harm(a, 0, 60, 0);
+    harm(a, 0, 94, 0);
+    harm(a, 0, 67, 0);
+    harm(a, 0, 34, 0);
+    harm(a, 0, 0, 2);
+}
+
+// Block numbers, counts of records, and the kind of a block.
+fn block_cases(a: &mut [u8]) {
+    harm(a, 1, 4, 1);
+    harm(a, 1, 4, 2);
+    harm(a, 2, 4, 1);
+    harm(a, 2, 7, 1);
+    harm(a, 3, 4, 4);
+    harm(a, 3, 1, 2);
+    harm(a, 2, 1, 14);
+    harm(a, 3, 0, 1);
+}
+
+// A record's station, peer and phase.
+fn record_cases(a: &mut [u8]) {
+    harm(a, 3, 17, 8);
+    harm(a, 3, 18, 3);
+    harm(a, 3, 18, 6);
+    harm(a, 3, 22, 16);
+}
+
+// Counts up to t and above it, an own count of 0, and a place past the last record.
+fn count_cases(a: &mut [u8]) {
+    harm(a, 3, 32, 208);
+    harm(a, 3, 33, 7);
+    harm(a, 3, 33, 8);
+    harm(a, 3, 44, 0);
+    harm(a, 3, 48, 1);
+}
+
+// Block 2 with the first records of a full one.
+fn middle(a: &mut [u8], count: usize)
+    requires { ⌜ (2048 ≤ length (now a)) × (count ≤ 15) ⌝ }
+    ensures { λ _. ⌜ length (now (a .exit)) ≡ length (now (a .entry)) ⌝ }
+{
+    let mut rs = [0u8; 480];
+    fill(&mut rs, 15, 15);
+    let size = count * 32;
+    entries::write(2, &rs[0..size], &mut a[1024..1536]);
+    say(b"  in block 2 ", count);
+    total(&a[..], 2048);
+    say(b"  at the end ", count);
+    total(&a[..], 1536);
+}
+
+// A wrong check in the last block, and the archive without it.
+fn last(a: &mut [u8])
+    requires { ⌜ 2048 ≤ length (now a) ⌝ }
+{
+    vectors::lift(&mut a[1536..2048], 510, 1);
+    io::write_all(1, b"  a wrong check at the end");
+    total(&a[..], 2048);
+    io::write_all(1, b"  without that block");
+    total(&a[..], 1536);
+}
+
+// An archive of 31 records, spoilt in each way.
+fn harms(a: &mut [u8])
+    requires { ⌜ 2048 ≤ length (now a) ⌝ }
+{
+    io::write_all(1, b"harmed\n");
+    make(a, 31);
+    header_cases(a);
+    block_cases(a);
+    record_cases(a);
+    count_cases(a);
+    middle(a, 14);
+    middle(a, 15);
+    last(a);
+}
+
+// An archive of 3,000 records.
 fn large(a: &[u8]) {
-    io::write_all(1, b"records 945\n");
+    io::write_all(1, b"records 3000");
+    total(a, a.len());
     list(a, 0, 1000);
     list(a, 14, 1000);
     list(a, 15, 1000);
-    list(a, 472, 1000);
-    list(a, 944, 1000);
-    list(a, 945, 1000);
-    fits(a, 944);
-    orders(a, 472, 945);
+    list(a, 1500, 1000);
+    list(a, 2999, 1000);
+    list(a, 3000, 1000);
+    fits(a, 2999);
+    orders(a, 1500, 3000);
 }
 
-fn area() -> [u8; 32768] {
-    [0u8; 32768]
+fn area() -> [u8; 102912] {
+    [0u8; 102912]
 }
 
 fn main() {
     let mut a = area();
     small(&mut a, 0);
     small(&mut a, 1);
+    small(&mut a, 14);
     small(&mut a, 15);
     small(&mut a, 16);
+    small(&mut a, 30);
     small(&mut a, 31);
     spoilt(&mut a);
-    make(&mut a, 945);
+    harms(&mut a);
+    make(&mut a, 3000);
     large(&a);
 }
