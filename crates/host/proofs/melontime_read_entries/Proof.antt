@@ -1,0 +1,18 @@
+use mathlib.Core.Path.{ap, _∙_}
+use Rattle.entries.specs.declared.EntriesRead.{EntriesRead}
+use Rattle.host.specs.Numbers.{blockNumber}
+use borrow.Author.Needs.{needs}
+use Rattle.host.proofs.melontime_read_entries.Statement.{statement}
+use Rattle.host.proofs.melontime_read_entries.Tie as tie
+
+read-requires : tie.Need-read-requires
+read-requires c κs = search needs
+
+block-number-requires : tie.Need-block-number-requires
+block-number-requires c κs = search needs
+
+returns : tie.Need-returns
+returns c = c .block-number .ensures ∙ ap (λ (x : EntriesRead). blockNumber x) (c .before .read .ensures)
+
+pub melontime-read-entries-spec : {M : Type 1} → statement M
+melontime-read-entries-spec = tie.close (tie.spec read-requires block-number-requires returns)

@@ -1,0 +1,18 @@
+use mathlib.Core.Path.{ap, _∙_}
+use Rattle.calls.specs.Calls.{RestAnswer}
+use Rattle.host.specs.Numbers.{restNumber}
+use borrow.Author.Needs.{needs}
+use Rattle.host.proofs.melontime_rest.Statement.{statement}
+use Rattle.host.proofs.melontime_rest.Tie as tie
+
+rest-requires : tie.Need-rest-requires
+rest-requires c κs = search needs
+
+rest-number-requires : tie.Need-rest-number-requires
+rest-number-requires c κs = search needs
+
+returns : tie.Need-returns
+returns c = c .rest-number .ensures ∙ ap (λ (x : RestAnswer). restNumber x) (c .before .rest .ensures)
+
+pub melontime-rest-spec : {M : Type 1} → statement M
+melontime-rest-spec = tie.close (tie.spec rest-requires rest-number-requires returns)
