@@ -39,7 +39,7 @@ fn peer_known(n: u8, limits: [[u8; 8]; 8], r: Record) -> bool
 }
 
 // The record names only what the header has.
-pub fn record_known(h: Header, limits: [[u8; 8]; 8], r: Record) -> bool
+fn record_known(h: Header, limits: [[u8; 8]; 8], r: Record) -> bool
     requires { ⌜ h .n ≤ 8 ⌝ }
     ensures { λ q. ⌜ q ≡ recordKnown h limits r ⌝ }
 {

@@ -9,7 +9,7 @@ ghost use Rattle.area.specs.Layout.{stationsTest, linksTest, partsTest, 
 use header::Header;
 
 // How many items the link from i to j can hold.
-pub fn places_of(limits: [[u8; 8]; 8], h: Header, i: usize, j: usize) -> u8
+fn places_of(limits: [[u8; 8]; 8], h: Header, i: usize, j: usize) -> u8
     requires { ⌜ (i < 8) × (j < 8) × (wellMade (headerConfig h limits) ≡ true) ⌝ }
     ensures { λ r. ⌜ (r ≡ places (headerConfig h limits) i j) × (r ≤ 34) ⌝ }
 {

@@ -106,7 +106,7 @@ pub fn zeros(s: &[u8]) -> bool
 }
 
 // Zeros in every place.
-pub fn clear(d: &mut [u8])
+fn clear(d: &mut [u8])
     ensures { λ _. ⌜ now (d .exit) ≡ blank (length (now (d .entry))) ⌝ }
 {
     let mut i = 0;

@@ -109,11 +109,6 @@ decimal-numeral =
     (λ n h. rw (decimal-small n h) (digit-of n h))
     (λ n h e. rw (decimal-large n h) (numeral-more (decimal (n / 10)) (n % 10) e (λ (z : valueOf (decimal (n / 10)) ≡ 0). omega (arith, value-decimal (n / 10))) (omega arith)))
 
--- so it is never empty
-pub decimal-some : (n : ℕ) → decimal n ≡ [] → ⊥
-unfolding numeral
-decimal-some n e = false≢true (rw e at (decimal-numeral n))
-
 pub digit-text : (x : ℕ) → digit x ≡ true → decimal (x - 48) ≡ x ∷ []
 digit-text x d =
     let r = digit-range x d in

@@ -48,7 +48,7 @@ fn limits_fit(limits: [[u8; 8]; 8]) -> bool
 }
 
 // Every field is in its range.
-pub fn header_fits(h: Header, limits: [[u8; 8]; 8]) -> bool
+fn header_fits(h: Header, limits: [[u8; 8]; 8]) -> bool
     ensures { λ r. ⌜ r ≡ headerFits h limits ⌝ }
 {
     (1 <= h.n) & ((h.n <= 8) & ((1 <= h.t) & limits_fit(limits)))

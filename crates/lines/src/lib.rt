@@ -16,7 +16,7 @@ pub struct Filled {
 }
 
 // One more byte of a line.
-pub fn keep(line: &mut [u8], have: usize, b: u8) -> usize
+fn keep(line: &mut [u8], have: usize, b: u8) -> usize
     requires { ⌜ (have ≤ 32) × (length (now line) ≡ 32) ⌝ }
     ensures { λ r. ⌜ r ≤ 32 ⌝ }
     ensures { λ r. ⌜ ((t : List ℕ) → Kept (now (line .entry)) have t → Kept (now (line .exit)) r (t ++ (b ∷ []))) ⌝ }

@@ -128,12 +128,6 @@ message-image k g v h = go (eqb k 2) (eqb k 3) h
     go false true h = absurd (true≢false h)
     go false false h = refl
 
--- a count at most m, and 0 unless b
-pub count-bound : (b : Bool) (v m : ℕ) → (leb v m && (b || eqb v 0)) ≡ leb v (cond b m 0)
-count-bound true v m = and-true (leb v m)
-count-bound false zero m = rw (le-leb 0 m (omega arith))
-count-bound false (suc v) m = rw (ne-eqb (suc v) 0 (λ (e : suc v ≡ 0). omega arith), lt-leb (suc v) 0 (omega arith), and-false)
-
 -- what is read of bytes fits them
 pub item-ranged : (l : List ℕ) → AreBytes l → RangedItem (parseItem l)
 unfolding parseItem itemOf

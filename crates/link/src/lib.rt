@@ -7,7 +7,6 @@ ghost use Rattle.codec.specs.Num.{bytesOf, numsOf};
 ghost use Rattle.codec.specs.Every.{blank};
 ghost use Rattle.reset.specs.Clock.{vector};
 ghost use Rattle.reset.specs.State as state;
-ghost use Rattle.reset.specs.WellFormed.{countsFit};
 ghost use Rattle.link.specs.Image.{Queue, itemView, imageItem, parseItem, itemTest, imageLink, itemAt, queueTest, sized};
 
 // Kind 1 is a message, 2 reset_req, 3 reset_done; the register number and the counts are a message's.
@@ -18,7 +17,7 @@ pub struct Item {
 }
 
 // The item in a place of 21 bytes.
-pub fn load(part: &[u8]) -> Item
+fn load(part: &[u8]) -> Item
     requires { ⌜ length (now part) ≡ 21 ⌝ }
     ensures { λ r. ⌜ itemView r ≡ parseItem (now (part .entry)) ⌝ }
 {
@@ -41,7 +40,7 @@ fn store_fields(part: &mut [u8], kind: u8, register: u32, counts: [u16; 8])
 }
 
 // Writes an item into a place of 21 bytes.
-pub fn store(part: &mut [u8], x: Item)
+fn store(part: &mut [u8], x: Item)
     requires { ⌜ length (now part) ≡ 21 ⌝ }
     ensures { λ _. ⌜ now (part .exit) ≡ imageItem (itemView x) ⌝ }
 {
@@ -54,30 +53,15 @@ pub fn store(part: &mut [u8], x: Item)
     store_fields(part, 1, x.register, counts);
 }
 
-// Every count is at most `most`, and 0 for stations n and above.
-pub fn counts_fit(n: u8, most: u16, counts: [u16; 8]) -> bool
-    ensures { λ r. ⌜ r ≡ countsFit (sized n most) most counts ⌝ }
-{
-    let mut ok = true;
-    let mut k: u8 = 0;
-    while k < 8 {
-        let at = k as usize;
-        let count = counts[at];
-        ok = ok & ((count <= most) & ((k < n) | (count == 0)));
-        k += 1;
-    }
-    ok
-}
-
 // A place of 21 bytes holds an item in range.
-pub fn item_test(n: u8, t: u16, part: &[u8]) -> bool
+fn item_test(n: u8, t: u16, part: &[u8]) -> bool
     requires { ⌜ length (now part) ≡ 21 ⌝ }
     ensures { λ r. ⌜ r ≡ itemTest (sized n t) (now (part .entry)) ⌝ }
 {
     let kind = part[0];
     if kind == 1 {
         let counts = codec::get_row(part, 5);
-        return counts_fit(n, t, counts);
+        return clock::counts_fit(counts, n, t);
     }
     ((kind == 2) | (kind == 3)) & codec::zeros(&part[1..])
 }
@@ -106,7 +90,7 @@ pub fn test(places: u8, n: u8, t: u16, part: &[u8]) -> bool
 }
 
 // How many items the queue has.
-pub fn count(part: &[u8]) -> u8
+fn count(part: &[u8]) -> u8
     requires { ⌜ length (now part) ≡ 715 ⌝ }
     ensures { λ r. ⌜ r ≡ getD (now (part .entry)) 0 0 ⌝ }
 {

@@ -196,29 +196,6 @@ module _ (x : Station vector) where
           rw (e, mark-place (x .dones) 32 (j - 8) (places .dones-at) (omega arith)) (mark-small (getD (x .dones) (j - 8) false))
 
 -- ---- what is in range
--- a row of bytes, by index
-row-below : (l : List ℕ) (at : ℕ) → AreBytes l → (j : ℕ) → getD (upto 8 (byteAt l at)) j 0 < 256
-row-below l at b j = go (decLt j 8)
-  where
-    go : Dec (j < 8) → getD (upto 8 (byteAt l at)) j 0 < 256
-    go (yes h) = rw (upto-at 8 (byteAt l at) j 0 h) (b (at + j))
-    go (no h) = let n = upto-length 8 (byteAt l at) in omega (arith, List·getD-eq-default (upto 8 (byteAt l at)) 0 {n = j} (omega arith))
-
--- what is parsed of bytes has its sizes
-pub parsed-ranged : (l : List ℕ) → AreBytes l → Ranged (parseStation l)
-unfolding parseStation
-parsed-ranged l b =
-    record {
-      time8 = refl;
-      sent8 = upto-length 8 _;
-      reqs8 = upto-length 8 _;
-      dones8 = upto-length 8 _;
-      counts-below = at-of 65536 (numsAt 2 8 l 0) (omega arith) (nums-below 2 8 l 0 b);
-      sent-below = row-below l 16 b;
-      phase-below = num-below 4 l 40 b;
-      own-below = num-below 2 l 44 b;
-    }
-
 -- the test of a record, part by part
 pub fits-parts : (c : Config) (i : ℕ) (x : Station vector) → stationFits c i x ≡ true
     → (countsFit c (ofStation c i (c .t)) (x .time) ≡ true) × (leb (x .phase) (ofStation c i 999999) ≡ true) × (leb (x .own) (allowanceAt c (x .phase) i) ≡ true)
@@ -293,8 +270,3 @@ accepted-is-image c i l b n h = image-parse l b n (test-parts c i l h .0)
 pub image-accepted : (c : Config) → wellMade c ≡ true → (i : ℕ) → i < 8 → (x : Station vector) → stationFits c i x ≡ true → stationTest c i (imageStation x) ≡ true
 unfolding stationTest
 image-accepted c w i b x h = rw (image-bytes-fit x, parse-image x (fits-ranged c w i b x h)) h
-
--- zeros are the image of the blank record
-pub blank-image : imageStation blankStation ≡ blank 47
-unfolding imageStation sentOf marksOf upto zeros noneSeen blank
-blank-image = refl

@@ -5,6 +5,7 @@ use mathlib.Core.Bool.{Bool, false, not, cond, _&&_, _||_}
 use lib.Dec.{eqb, leb, ltb}
 use lib.ListN.{length, getD}
 use Rattle.codec.specs.Every.{every}
+use Rattle.clock.specs.Range.{countsFit}
 use Rattle.header.specs.declared.Header.{Header}
 use Rattle.reset.specs.Config.{Config}
 use Rattle.reset.specs.WellFormed.{stationFits}
@@ -16,11 +17,8 @@ configOf h m = record { n = h .n; t = h .t; allowances = h .allowances; limits =
 
 -- ---- the tests of a record's lists
 -- eight counts, each at most b, and 0 for stations n and above
-abbrev pub countWithin : ℕ → ℕ → List ℕ → ℕ → Bool
-countWithin n b v k = leb (getD v k 0) (cond (ltb k n) b 0)
-
 abbrev pub countsWithin : ℕ → ℕ → List ℕ → Bool
-countsWithin n b v = eqb (length v) 8 && every 8 (countWithin n b v)
+countsWithin n b v = eqb (length v) 8 && countsFit n b v
 
 -- eight numbers of messages sent, each within the limit in its row
 abbrev pub sentWithinAt : List ℕ → List ℕ → ℕ → Bool

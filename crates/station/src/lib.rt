@@ -93,7 +93,8 @@ pub fn load(part: &[u8]) -> Station
     }
 }
 
-fn mode_byte(m: Mode) -> u8
+// The number of a mode: 0 normal, 1 mute, 2 stand-by.
+pub fn mode_byte(m: Mode) -> u8
     ensures { λ r. ⌜ r ≡ modeByte (modeView m) ⌝ }
 {
     match m {
@@ -152,7 +153,7 @@ pub fn store(part: &mut [u8], s: Station)
 }
 
 // Every mark is 0 or 1, and the mode one of the three.
-pub fn bytes_fit(part: &[u8]) -> bool
+fn bytes_fit(part: &[u8]) -> bool
     requires { ⌜ length (now part) ≡ 47 ⌝ }
     ensures { λ r. ⌜ r ≡ stationBytesFit (now (part .entry)) ⌝ }
 {
@@ -195,16 +196,10 @@ pub fn is_normal(m: Mode) -> bool
 }
 
 // Each count is at most b, and 0 for stations n and above.
-pub fn counts_fit(n: usize, b: u16, counts: [u16; 8]) -> bool
+fn counts_fit(n: u8, b: u16, counts: [u16; 8]) -> bool
     ensures { λ r. ⌜ r ≡ countsWithin n b counts ⌝ }
 {
-    let mut ok = true;
-    let mut k = 0;
-    while k < 8 {
-        ok = ok & (counts[k] <= count_bound(k < n, b));
-        k += 1;
-    }
-    ok
+    clock::counts_fit(counts, n, b)
 }
 
 // Messages sent within the limits of a row.
@@ -234,12 +229,12 @@ fn marks_fit(row: [u8; 8], reqs: [bool; 8], dones: [bool; 8]) -> bool
 }
 
 // Every field of station i's record is in its range.
-pub fn fits(h: Header, limits: [[u8; 8]; 8], i: usize, s: Station) -> bool
+fn fits(h: Header, limits: [[u8; 8]; 8], i: usize, s: Station) -> bool
     requires { ⌜ i < 8 ⌝ }
     ensures { λ r. ⌜ r ≡ stationFits (configOf h limits) i (stationView s) ⌝ }
 {
-    let n = wide(h.n);
-    let known = i < n;
+    let n = h.n;
+    let known = i < wide(n);
     let allowances = h.allowances;
     let row = limits[i];
     let counts = s.counts;

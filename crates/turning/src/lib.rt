@@ -112,7 +112,7 @@ pub fn with_done(s: Station, j: usize) -> Station
 }
 
 // Begin: dones forgotten, mute.
-pub fn begin(s: Station) -> Station
+fn begin(s: Station) -> Station
     ensures { λ r. ⌜ stationView r ≡ begun (stationView s) ⌝ }
 {
     let counts = s.counts;

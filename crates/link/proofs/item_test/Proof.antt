@@ -5,6 +5,8 @@ use native.Mathlib.Omega.{arith}
 use lib.ListN.{length, take, drop, length-drop}
 use lib.Seq.{take-all}
 use borrow.Author.Tests.{eq-eqb, ne-eqb}
+use Rattle.clock.specs.Range.{countsFit as fit}
+use Rattle.reset.specs.Config.{isStation}
 use Rattle.reset.specs.WellFormed.{countsFit}
 use Rattle.link.specs.Image.{itemTest}
 use borrow.Author.Needs.{needs}
@@ -21,8 +23,8 @@ counts-fit-requires : tie.Need-counts-fit-requires
 counts-fit-requires c κs = search needs
 
 returns : tie.Need-returns
-unfolding itemTest
-returns c = rw (eq-eqb _ 1 (c .before .before .if1 .taken)) (c .counts-fit .ensures ∙ ap (countsFit _ _) (c .before .get-row .ensures))
+unfolding itemTest countsFit isStation fit
+returns c = rw (eq-eqb _ 1 (c .before .before .if1 .taken)) (c .counts-fit .ensures ∙ ap (fit _ _) (c .before .get-row .ensures))
 
 sub-zeros : tie.Need-sub-zeros
 sub-zeros c = search needs

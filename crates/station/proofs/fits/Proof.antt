@@ -1,3 +1,4 @@
+use Rattle.clock.specs.Range.{countsFit as fit}
 use Rattle.reset.specs.Reach.{limit, linked}
 use Rattle.reset.specs.Config.{isStation, neighbours, limitAt, allowanceAt}
 use Rattle.reset.specs.WellFormed.{countsFit, sentFits, marksFit, stationFits}
@@ -39,7 +40,7 @@ marks-fit-requires : tie.Need-marks-fit-requires
 marks-fit-requires c κs = search needs
 
 returns : tie.Need-returns
-unfolding stationFits countsFit sentFits marksFit isStation neighbours limitAt allowanceAt limit linked
+unfolding stationFits countsFit fit sentFits marksFit isStation neighbours limitAt allowanceAt limit linked
 returns c =
     let d = c .before .before .before .before in
     let e = d .before .before in
