@@ -1,2 +1,4 @@
 pub mod Laws
 pub mod Blocks
+pub mod Headers
+pub mod Archives

@@ -4,7 +4,7 @@ use native.Mathlib.Omega.{arith}
 use mathlib.Core.Path.{_≡_, refl, sym, ap, subst}
 use mathlib.Core.List.{List, [], _∷_}
 use mathlib.Core.Bool.{Bool, true, false, not, cond, _&&_}
-use lib.Dec.{eqb, leb}
+use lib.Dec.{eqb, ltb}
 use Rattle.clock.specs.declared.Verdict.{Verdict}
 use Rattle.clock.specs.declared.Verdict.the-variants.{Before, After, Same, Unordered}
 use Rattle.clock.specs.Order.{verdictOf}
@@ -12,14 +12,20 @@ use Rattle.record.specs.Record.{parseRecord, wellMadeRecord}
 use Rattle.verdict.specs.Compare.{verdictOn, verdictOfBytes}
 use Rattle.verdict.specs.declared.Compared.{Compared}
 use Rattle.verdict.specs.declared.Compared.the-variants.{Ordered, Refused}
+use Rattle.archive.specs.Archive.{archiveTest, records, countRecords}
+use Rattle.archive.specs.declared.Counted.{Counted}
+use Rattle.archive.specs.declared.Counted.the-variants.{Records, Refused as NoArchive}
+use Rattle.concurrent.specs.Unordered.{unorderedCount, unorderedAnswer}
+use Rattle.concurrent.specs.declared.Listed.{Listed}
+use Rattle.concurrent.specs.declared.Listed.the-variants.{Count, Refused as NoList}
 use Rattle.reset.specs.Network.{quiescent}
-use Rattle.reset.specs.Config.{Config, isStation, neighbours, limitAt, allowanceAt}
-use Rattle.reset.specs.Clock.{Clock, vector}
+use Rattle.reset.specs.Config.{Config}
+use Rattle.reset.specs.Clock.{vector}
 use Rattle.reset.specs.State.{Mode, normal, mute, standBy, Item, message, resetReq, resetDone, State, linkAt}
-use Rattle.reset.specs.Steps.{Step, enter, send, recv, start, Answer, refused, entry, modeAfter, Outcome, refuse, guard, bounded, inBounds, receive, step}
+use Rattle.reset.specs.Steps.{Step, enter, send, recv, start, Answer, refused, entry, modeAfter, Outcome, guard, bounded, inBounds, receive, step}
 use Rattle.area.specs.Layout.{configAt, stateAt, test}
-use Rattle.calls.specs.Calls.{AreaStep, stepOn, imaged, RestAnswer, yes, no, restOn, restRefused}
-use Rattle.host.specs.Numbers.{modeNumber, stepNumber, restNumber, orderNumber, verdictNumber}
+use Rattle.calls.specs.Calls.{stepOn, imaged, RestAnswer, yes, no, restOn, restRefused}
+use Rattle.host.specs.Numbers.{modeNumber, stepNumber, restNumber, orderNumber, verdictNumber, countedNumber, listedNumber}
 
 -- a refusal's number is below 10
 abbrev pub Low : Answer → Type 0
@@ -184,3 +190,49 @@ verdicts-distinct a b c d = one-verdict (verdictOn a b) (verdictOn c d) (verdict
 -- ---- an entries block read, whose count is at most 15
 pub one-block : (m n j k : ℕ) → j < 16 → k < 16 → 1000 + (16 * m + j) ≡ 1000 + (16 * n + k) → (m ≡ n) × (j ≡ k)
 one-block m n j k h l e = (omega arith, omega arith)
+
+-- ---- counts, which start at 1,000
+abbrev LowCounted : Counted → Type 0
+LowCounted (Records n) = Unit {0}
+LowCounted (NoArchive k) = k < 1000
+
+counted-low : (a : List ℕ) → LowCounted (countRecords a)
+unfolding countRecords
+counted-low a = go (archiveTest a)
+  where
+    go : (t : Bool) → LowCounted (cond t (Records (records a)) (NoArchive 1))
+    go true = tt
+    go false = omega arith
+
+one-count : (x y : Counted) → LowCounted x → LowCounted y → countedNumber x ≡ countedNumber y → x ≡ y
+one-count (Records m) (Records n) a b e = ap (λ (x : ℕ). Records x) (omega arith)
+one-count (NoArchive k) (NoArchive l) a b e = ap (λ (x : ℕ). NoArchive x) e
+one-count (Records m) (NoArchive l) a b e = absurd (omega arith)
+one-count (NoArchive k) (Records n) a b e = absurd (omega arith)
+
+pub counts-distinct : (a b : List ℕ) → countedNumber (countRecords a) ≡ countedNumber (countRecords b) → countRecords a ≡ countRecords b
+counts-distinct a b = one-count (countRecords a) (countRecords b) (counted-low a) (counted-low b)
+
+-- ---- unordered lists, whose counts start at 1,000 too
+abbrev LowListed : Listed → Type 0
+LowListed (Count n) = Unit {0}
+LowListed (NoList k) = k < 1000
+
+listed-low : (a : List ℕ) (k places : ℕ) → LowListed (unorderedAnswer a k places)
+unfolding unorderedAnswer
+listed-low a k places = go (archiveTest a) (ltb k (records a)) (ltb places (unorderedCount a k))
+  where
+    go : (t u v : Bool) → LowListed (cond t (cond u (cond v (NoList 11) (Count (unorderedCount a k))) (NoList 12)) (NoList 1))
+    go true true true = omega arith
+    go true true false = tt
+    go true false v = omega arith
+    go false u v = omega arith
+
+one-list : (x y : Listed) → LowListed x → LowListed y → listedNumber x ≡ listedNumber y → x ≡ y
+one-list (Count m) (Count n) a b e = ap (λ (x : ℕ). Count x) (omega arith)
+one-list (NoList k) (NoList l) a b e = ap (λ (x : ℕ). NoList x) e
+one-list (Count m) (NoList l) a b e = absurd (omega arith)
+one-list (NoList k) (Count n) a b e = absurd (omega arith)
+
+pub lists-distinct : (a b : List ℕ) (j k p q : ℕ) → listedNumber (unorderedAnswer a j p) ≡ listedNumber (unorderedAnswer b k q) → unorderedAnswer a j p ≡ unorderedAnswer b k q
+lists-distinct a b j k p q = one-list (unorderedAnswer a j p) (unorderedAnswer b k q) (listed-low a j p) (listed-low b k q)

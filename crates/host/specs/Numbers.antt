@@ -6,6 +6,10 @@ use Rattle.verdict.specs.declared.Compared.{Compared}
 use Rattle.verdict.specs.declared.Compared.the-variants.{Ordered, Refused}
 use Rattle.entries.specs.declared.EntriesRead.{EntriesRead}
 use Rattle.entries.specs.declared.EntriesRead.the-variants.{Block, Refused as NoBlock}
+use Rattle.archive.specs.declared.Counted.{Counted}
+use Rattle.archive.specs.declared.Counted.the-variants.{Records, Refused as NoArchive}
+use Rattle.concurrent.specs.declared.Listed.{Listed}
+use Rattle.concurrent.specs.declared.Listed.the-variants.{Count, Refused as NoList}
 use Rattle.reset.specs.State.{Mode, normal, mute, standBy}
 use Rattle.reset.specs.Steps.{Answer, refused, entry, modeAfter}
 use Rattle.calls.specs.Calls.{RestAnswer, yes, no, restRefused}
@@ -48,6 +52,15 @@ verdictNumber (Refused k) = k
 abbrev pub blockNumber : EntriesRead → ℕ
 blockNumber (Block n k) = 1000 + (16 * n + k)
 blockNumber (NoBlock k) = k
+
+-- how many records an archive has, and how many an unordered list: 1,000 + the count
+abbrev pub countedNumber : Counted → ℕ
+countedNumber (Records n) = 1000 + n
+countedNumber (NoArchive k) = k
+
+abbrev pub listedNumber : Listed → ℕ
+listedNumber (Count n) = 1000 + n
+listedNumber (NoList k) = k
 
 -- the same numbers, by the answer as the code has it
 abbrev pub codeModeNumber : CodeMode → ℕ

@@ -1,16 +1,24 @@
 // The calls for a host, on numbers and slices.
 ghost use mathlib.Core.Path.{_≡_};
-ghost use Prim.Native.Nat.{_≤_};
+ghost use Prim.Native.Nat.{_≤_, _+_};
 ghost use lib.ListN.{length};
+ghost use Rattle.codec.specs.Splice.{splice};
+ghost use Rattle.header.specs.Header.{bytesAt, tableAt, parseHeader};
+ghost use Rattle.archive.specs.Archive.{countRecords};
 ghost use Rattle.reset.specs.Steps.{enter as Enter, send as Send, recv as Recv, start as Start};
 ghost use Rattle.verdict.specs.Compare.{verdictOn};
 ghost use Rattle.entries.specs.Entries.{writeEntries, readEntries, readRecord};
 ghost use Rattle.calls.specs.Calls.{setupOn, restOn};
 ghost use Rattle.rest.specs.View.{restView};
-ghost use Rattle.host.specs.Numbers.{blockNumber, restNumber, orderNumber, verdictNumber, codeModeNumber, codeNumber, isEntry};
+ghost use Rattle.host.specs.Numbers.{blockNumber, restNumber, orderNumber, verdictNumber, countedNumber, listedNumber, codeModeNumber, codeNumber, isEntry};
 ghost use Rattle.host.specs.Calls.{Returns, eventAfter};
+ghost use Rattle.host.specs.Headers.{fieldsFit, headerOf, headerWritten, fieldBytes, headerFields};
+ghost use Rattle.host.specs.Archives.{recordFound, Listing};
+use archive::Counted;
 use clock::Verdict;
+use concurrent::Listed;
 use entries::EntriesRead;
+use header::Header;
 use rest::RestAnswer;
 use station::Mode;
 use stepped::Answer;
@@ -206,4 +214,144 @@ pub extern "C" fn melontime_read_record(block: &[u8], k: u32, area: &mut [u8]) -
     ensures { λ r. ⌜ (r ≡ readRecord (now (block .entry)) k (now (area .entry)) .answer) × (now (area .exit) ≡ readRecord (now (block .entry)) k (now (area .entry)) .buffer) ⌝ }
 {
     entries::read_record(block, k as usize, area) as u64
+}
+
+// The fields of a header fit their bytes.
+fn fields_fit(n: u32, t: u32, allowances: &[u8], limits: &[u8]) -> bool
+    ensures { λ r. ⌜ r ≡ fieldsFit n t (now (allowances .entry)) (now (limits .entry)) ⌝ }
+{
+    (allowances.len() == 16) & ((limits.len() == 64) & ((n <= 255) & (t <= 65535)))
+}
+
+fn header_of(n: u8, t: u16, allowances: &[u8]) -> Header
+    requires { ⌜ length (now allowances) ≡ 16 ⌝ }
+    ensures { λ r. ⌜ r ≡ headerOf n t (now (allowances .entry)) ⌝ }
+{
+    let row = codec::get_row(allowances, 0);
+    Header {
+        n,
+        t,
+        allowances: row,
+    }
+}
+
+fn row_at(s: &[u8], at: usize) -> [u8; 8]
+    requires { ⌜ at + 8 ≤ length (now s) ⌝ }
+    ensures { λ r. ⌜ r ≡ bytesAt 8 (now (s .entry)) at ⌝ }
+{
+    let b = at + 1;
+    let c = b + 1;
+    let d = c + 1;
+    let e = d + 1;
+    let f = e + 1;
+    let g = f + 1;
+    let h = g + 1;
+    [s[at], s[b], s[c], s[d], s[e], s[f], s[g], s[h]]
+}
+
+// Eight rows of eight limits.
+fn table_of(s: &[u8]) -> [[u8; 8]; 8]
+    requires { ⌜ length (now s) ≡ 64 ⌝ }
+    ensures { λ r. ⌜ r ≡ tableAt 8 (now (s .entry)) 0 ⌝ }
+{
+    let a = row_at(s, 0);
+    let b = row_at(s, 8);
+    let c = row_at(s, 16);
+    let d = row_at(s, 24);
+    let e = row_at(s, 32);
+    let f = row_at(s, 40);
+    let g = row_at(s, 48);
+    let h = row_at(s, 56);
+    [a, b, c, d, e, f, g, h]
+}
+
+#[no_mangle]
+pub extern "C" fn melontime_write_header(
+    n: u32,
+    t: u32,
+    allowances: &[u8],
+    limits: &[u8],
+    area: &mut [u8],
+) -> u64
+    ensures { λ r. ⌜ (r ≡ headerWritten n t (now (allowances .entry)) (now (limits .entry)) (now (area .entry)) .answer) × (now (area .exit) ≡ headerWritten n t (now (allowances .entry)) (now (limits .entry)) (now (area .entry)) .buffer) ⌝ }
+{
+    if !fields_fit(n, t, allowances, limits) {
+        return 1;
+    }
+    let h = header_of(n as u8, t as u16, allowances);
+    header::write(h, table_of(limits), area) as u64
+}
+
+// The fields of a header block: its bytes 1 to 3 are n and t, then come the allowances from 16 and the limits from 32.
+fn put_fields(fields: &mut [u8], block: &[u8])
+    requires { ⌜ (length (now block) ≡ 512) × (83 ≤ length (now fields)) ⌝ }
+    ensures { λ _. ⌜ now (fields .exit) ≡ splice (now (fields .entry)) 0 (fieldBytes (parseHeader (now (block .entry))) (tableAt 8 (now (block .entry)) 32)) ⌝ }
+{
+    codec::put_bytes(fields, 0, &block[1..4]);
+    codec::put_bytes(fields, 3, &block[16..32]);
+    codec::put_bytes(fields, 19, &block[32..96]);
+}
+
+#[no_mangle]
+pub extern "C" fn melontime_read_header(block: &[u8], fields: &mut [u8]) -> u64
+    ensures { λ r. ⌜ (r ≡ headerFields (now (block .entry)) (now (fields .entry)) .answer) × (now (fields .exit) ≡ headerFields (now (block .entry)) (now (fields .entry)) .buffer) ⌝ }
+{
+    if !header::well_made(block) {
+        return 1;
+    }
+    if fields.len() < 83 {
+        return 11;
+    }
+    put_fields(fields, block);
+    0
+}
+
+fn counted_number(answer: Counted) -> u64
+    requires { ⌜ countedNumber answer ≤ 18446744073709551615 ⌝ }
+    ensures { λ r. ⌜ r ≡ countedNumber answer ⌝ }
+{
+    match answer {
+        Counted::Records(n) => 1000 + (n as u64),
+        Counted::Refused(k) => k as u64,
+    }
+}
+
+#[no_mangle]
+pub extern "C" fn melontime_archive_records(archive: &[u8]) -> u64
+    ensures { λ r. ⌜ r ≡ countedNumber (countRecords (now (archive .entry))) ⌝ }
+{
+    counted_number(archive::count(archive))
+}
+
+#[no_mangle]
+pub extern "C" fn melontime_found_record(archive: &[u8], number: u64, area: &mut [u8]) -> u64
+    ensures { λ r. ⌜ (r ≡ recordFound (now (archive .entry)) number (now (area .entry)) .answer) × (now (area .exit) ≡ recordFound (now (archive .entry)) number (now (area .entry)) .buffer) ⌝ }
+{
+    let k = number as usize;
+    let refusal = archive::find(archive, k);
+    if refusal != 0 {
+        return refusal as u64;
+    }
+    if area.len() < 32 {
+        return 11;
+    }
+    codec::put_bytes(area, 0, archive::record_at(archive, k));
+    0
+}
+
+fn listed_number(answer: Listed) -> u64
+    requires { ⌜ listedNumber answer ≤ 18446744073709551615 ⌝ }
+    ensures { λ r. ⌜ r ≡ listedNumber answer ⌝ }
+{
+    match answer {
+        Listed::Count(n) => 1000 + (n as u64),
+        Listed::Refused(k) => k as u64,
+    }
+}
+
+#[no_mangle]
+pub extern "C" fn melontime_unordered(archive: &[u8], number: u64, list: &mut [u64]) -> u64
+    ensures { λ r. ⌜ Listing (now (archive .entry)) number (now (list .entry)) (now (list .exit)) r ⌝ }
+{
+    listed_number(concurrent::unordered(archive, number as usize, list))
 }

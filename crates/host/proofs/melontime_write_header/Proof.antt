@@ -1,0 +1,57 @@
+use mathlib.Core.Path.{refl, sym, _∙_}
+use native.Mathlib.Omega.{arith}
+use borrow.Author.Tests.{not-true, not-false}
+use denote.Ref.{now}
+use Rattle.host.specs.Headers.{headerWritten}
+use Rattle.host.proofs.Headers.{fit-parts}
+use borrow.Author.Needs.{needs}
+use Rattle.host.proofs.melontime_write_header.Statement.{statement}
+use Rattle.host.proofs.melontime_write_header.Tie as tie
+
+fields-fit-requires : tie.Need-fields-fit-requires
+fields-fit-requires c κs = search needs
+
+returns : tie.Need-returns
+unfolding headerWritten
+returns c = rw (sym (c .before .fields-fit .ensures) ∙ not-true _ (c .if1 .taken)) (refl, refl)
+
+cast-header-of : tie.Need-cast-header-of
+cast-header-of c = omega (arith, fit-parts _ _ (now (c .before .before .before .before .before .args .allowances)) (now (c .before .before .before .before .before .args .limits)) (sym (c .before .fields-fit .ensures) ∙ not-false _ (c .if1 .left)) .2)
+
+cast-header-of-2 : tie.Need-cast-header-of-2
+cast-header-of-2 c = omega (arith, fit-parts _ _ (now (c .before .before .before .before .before .args .allowances)) (now (c .before .before .before .before .before .args .limits)) (sym (c .before .fields-fit .ensures) ∙ not-false _ (c .if1 .left)) .3)
+
+header-of-requires : tie.Need-header-of-requires
+header-of-requires c κs = fit-parts _ _ (now (c .before .before .before .before .before .args .allowances)) (now (c .before .before .before .before .before .args .limits)) (sym (c .before .fields-fit .ensures) ∙ not-false _ (c .if1 .left)) .0
+
+table-of-requires : tie.Need-table-of-requires
+table-of-requires c κs = fit-parts _ _ (now (c .before .before .before .before .before .before .args .allowances)) (now (c .before .before .before .before .before .before .args .limits)) (sym (c .before .before .fields-fit .ensures) ∙ not-false _ (c .before .if1 .left)) .1
+
+write-requires : tie.Need-write-requires
+write-requires c κs = search needs
+
+cast-result : tie.Need-cast-result
+cast-result c = search needs
+
+same-length : tie.Need-same-length
+same-length c = search needs
+
+returns-2 : tie.Need-returns-2
+unfolding headerWritten
+returns-2 c =
+    rw (sym (c .before .before .before .before .before .before .before .fields-fit .ensures) ∙ not-false _ (c .before .before .before .before .before .before .if1 .left), ← c .before .before .before .before .before .header-of .ensures, ← c .before .before .before .before .table-of .ensures) (c .before .before .write .ensures)
+
+pub melontime-write-header-spec : {M : Type 1} → statement M
+melontime-write-header-spec =
+    tie.close
+    (tie.spec
+    fields-fit-requires
+    returns
+    cast-header-of
+    cast-header-of-2
+    header-of-requires
+    table-of-requires
+    write-requires
+    cast-result
+    same-length
+    returns-2)
