@@ -1,0 +1,107 @@
+use Rattle.session.proofs.Laws.{part-line, stands, line-taken}
+use Rattle.text.proofs.WrittenLaws.{written-none}
+use Rattle.driver.specs.Run.{standing, obeyed}
+use Rattle.lines.proofs.KeptLaws.{kept-none}
+use Rattle.lines.specs.Lines.{before}
+use borrow.Author.Tests.{not-true, not-false}
+use Prim.Native.Nat.{ℕ}
+use lib.ListN.{drop}
+use mathlib.Core.List.{List, [], _++_}
+use denote.Ref.{now}
+use mathlib.Core.Path.{_≡_, refl, sym, _∙_}
+use native.Mathlib.Omega.{arith}
+use borrow.Author.Needs.{needs}
+use Rattle.session.proofs.take.Statement.{statement}
+use Rattle.session.proofs.take.Tie as tie
+use Rattle.session.proofs.take.Reads as reads
+use Rattle.session.proofs.take.Lts as lts
+use Rattle.driver.proofs.obey.Reads as obey-reads
+use Rattle.lines.proofs.fill.Reads as fill-reads
+use Rattle.lines.proofs.said.Reads as said-reads
+
+-- src/lib.rt:38:9
+fill-requires : tie.Need-fill-requires
+fill-requires c κs = search needs
+
+-- src/lib.rt:43:9
+same-length : tie.Need-same-length
+same-length c = search needs
+
+-- src/lib.rt:43:9
+returns : tie.Need-returns
+returns c =
+    let g = c .before .before .before .before .before .before .before .before .before .before .args in
+    let d = drop (g .at) (now (g .bytes)) in
+    let f = c .before .before .before .fill .ensures in (
+      record {
+        text = [];
+        printed = written-none _ _;
+        short = omega arith;
+        fits = f .fits;
+        inside = f .inside;
+        on = f .on;
+        goes = λ t k. (t ++ before d, f .line t k, λ more. part-line (standing (g .run) (now (g .block)) (now (g .area))) t d _ more (sym (f .whole) ∙ not-true _ (c .if1 .taken)) (f .rest));
+      },
+      c .before .before .before .before .before .before .before .before .before .before .pre .5,
+    )
+
+-- src/lib.rt:50:57
+said-requires : tie.Need-said-requires
+said-requires c κs = search needs
+
+-- src/lib.rt:50:9
+obey-requires : tie.Need-obey-requires
+obey-requires c κs = search needs
+
+-- src/lib.rt:23:1
+same-length-2 : tie.Need-same-length-2
+same-length-2 c = search needs
+
+-- src/lib.rt:23:1
+same-length-3 : tie.Need-same-length-3
+same-length-3 c = search needs
+
+-- src/lib.rt:23:1
+same-length-4 : tie.Need-same-length-4
+same-length-4 c = search needs
+
+-- src/lib.rt:23:1
+same-length-5 : tie.Need-same-length-5
+same-length-5 c = search needs
+
+-- src/lib.rt:23:1
+returns-2 : tie.Need-returns-2
+returns-2 c =
+    let g = c .before .before .before .before .before .before .before .before .before .before .before .before .before .before .before .before .before .before .before .before .before .before .before .args in
+    let d = drop (g .at) (now (g .bytes)) in
+    let s = standing (g .run) (now (g .block)) (now (g .area)) in
+    let f = c .before .before .before .before .before .before .before .before .before .before .before .before .before .before .before .before .fill .ensures in
+    let o = c .before .before .before .before .before .before .before .obey .ensures in
+    let y = stands _ _ _ _ _ _ _ (o .0) in
+    let q = c .before .before .before .before .before .before .before .before .said .ensures in (
+      record {
+        text = obeyed s (c .before .before .before .before .before .before .before .before .said .result) .text;
+        printed = o .0 .text;
+        short = o .0 .short;
+        fits = omega arith;
+        inside = f .inside;
+        on = f .on;
+        goes = λ t k. ([], kept-none _, λ more. line-taken s _ _ y t d _ more (sym (f .whole) ∙ not-false _ (c .before .before .before .before .before .before .before .before .before .before .before .before .before .if1 .left)) (f .rest) (q (t ++ before d) (f .line t k) .0));
+      },
+      o .1,
+    )
+
+pub take-spec : {M : Type 1} → statement M
+take-spec =
+    tie.close
+    (tie.spec
+    fill-requires
+    same-length
+    returns
+    said-requires
+    obey-requires
+    same-length-2
+    same-length-3
+    same-length-4
+    same-length-5
+    returns-2)

@@ -1,0 +1,82 @@
+// A run of turnover over an input that comes in parts: a line at a time, each printed into a lent buffer.
+use lines::Filled;
+use settings::Run;
+ghost use mathlib.Core.Path.{_≡_};
+ghost use mathlib.Core.List.{List, []};
+ghost use Prim.Native.Nat.{ℕ, _+_, _≤_};
+ghost use lib.ListN.{length};
+ghost use Rattle.answer.specs.Answer.{longest};
+ghost use Rattle.text.specs.Written.{Written};
+ghost use Rattle.lines.specs.Kept.{Kept};
+ghost use Rattle.driver.specs.Run.{standing, Ready};
+ghost use Rattle.session.specs.Turnover.{turnoverFrom, Takes};
+
+// How much of a line is kept, the place behind what was read, the place behind what was printed, and the run.
+pub struct Taken {
+    pub have: usize,
+    pub next: usize,
+    pub end: usize,
+    pub run: Run,
+}
+
+// Takes the bytes from `at` up to the first line feed, or all where there is none, and obeys the line that ends there.
+pub fn take(
+    line: &mut [u8],
+    have: usize,
+    bytes: &[u8],
+    at: usize,
+    block: &mut [u8],
+    area: &mut [u8],
+    out: &mut [u8],
+    end: usize,
+    run: Run,
+) -> Taken
+    requires { ⌜ (have ≤ 32) × (length (now line) ≡ 32) × (at ≤ length (now bytes)) × (end + longest ≤ length (now out)) × (length (now block) ≡ 512) × Ready (run .stage) (now area) ⌝ }
+    ensures { λ r. ⌜ Takes (standing run (now (block .entry)) (now (area .entry))) (now (line .entry)) have (now (bytes .entry)) at (now (out .entry)) end r (now (line .exit)) (now (block .exit)) (now (area .exit)) (now (out .exit)) ⌝ }
+    ensures { λ r. ⌜ Ready (r .run .stage) (now (area .exit)) ⌝ }
+{
+    let f = lines::fill(line, have, bytes, at);
+    let have = f.have;
+    let next = f.next;
+    let whole = f.whole;
+    if !whole {
+        return Taken {
+            have,
+            next,
+            end,
+            run,
+        };
+    }
+    let told = driver::obey(block, area, out, end, run, lines::said(&line[..], have));
+    let after = told.run;
+    Taken {
+        have: 0,
+        next,
+        end: told.end,
+        run: after,
+    }
+}
+
+// The input has ended: the last line, where it has no line feed, and setup where no step came.
+pub fn finish(
+    line: &[u8],
+    have: usize,
+    block: &mut [u8],
+    area: &mut [u8],
+    out: &mut [u8],
+    end: usize,
+    run: Run,
+) -> usize
+    requires { ⌜ (have ≤ 32) × (length (now line) ≡ 32) × (end + (longest + longest) ≤ length (now out)) × (length (now block) ≡ 512) × Ready (run .stage) (now area) ⌝ }
+    ensures { λ r. ⌜ ((t : List ℕ) → Kept (now (line .entry)) have t → Written (now (out .entry)) end (turnoverFrom (standing run (now (block .entry)) (now (area .entry))) t []) r (now (out .exit))) ⌝ }
+    ensures { λ r. ⌜ r ≤ end + (longest + longest) ⌝ }
+{
+    if have == 0 {
+        let closed = driver::close(block, area, out, end, run);
+        return closed.end;
+    }
+    let told = driver::obey(block, area, out, end, run, lines::said(line, have));
+    let after = told.run;
+    let closed = driver::close(block, area, out, told.end, after);
+    closed.end
+}
