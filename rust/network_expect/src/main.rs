@@ -1,3 +1,4 @@
+use reference::area;
 use reference::header::Header;
 use reference::network::*;
 mod t {
@@ -5,112 +6,6 @@ mod t {
 }
 use t::*;
 const A: usize = 65536;
-fn image(s: &State) -> Vec<u8> {
-    let mut a = vec![0u8; A];
-    a[..512].copy_from_slice(&s.header.to_block_untested());
-    for (i, x) in s.stations.iter().enumerate() {
-        let o = 512 + 47 * i;
-        for k in 0..8 {
-            a[o + 2 * k..o + 2 * k + 2].copy_from_slice(&x.counts[k].to_le_bytes());
-            a[o + 16 + k] = x.sent[k];
-            a[o + 24 + k] = x.req_seen[k] as u8;
-            a[o + 32 + k] = x.done_seen[k] as u8;
-        }
-        a[o + 40..o + 44].copy_from_slice(&x.phase.to_le_bytes());
-        a[o + 44..o + 46].copy_from_slice(&x.own_entries.to_le_bytes());
-        a[o + 46] = match x.mode {
-            Mode::Normal => 0,
-            Mode::Mute => 1,
-            Mode::StandBy => 2,
-        };
-    }
-    for i in 0..8 {
-        for j in 0..8 {
-            let o = 888 + 715 * (8 * i + j);
-            a[o] = s.links[i][j].len() as u8;
-            for (k, it) in s.links[i][j].iter().enumerate() {
-                let q = o + 1 + 21 * k;
-                match it {
-                    Item::ResetReq => a[q] = 2,
-                    Item::ResetDone => a[q] = 3,
-                    Item::Message(m) => {
-                        a[q] = 1;
-                        a[q + 1..q + 5].copy_from_slice(&m.register.to_le_bytes());
-                        for c in 0..8 {
-                            a[q + 5 + 2 * c..q + 7 + 2 * c]
-                                .copy_from_slice(&m.counts[c].to_le_bytes());
-                        }
-                    }
-                }
-            }
-        }
-    }
-    a
-}
-fn le16(a: &[u8], o: usize) -> u16 {
-    u16::from_le_bytes([a[o], a[o + 1]])
-}
-fn le32(a: &[u8], o: usize) -> u32 {
-    u32::from_le_bytes([a[o], a[o + 1], a[o + 2], a[o + 3]])
-}
-// The well-formed state of an area, by the tables of docs/LAYOUT.md.
-fn parse(a: &[u8]) -> Option<State> {
-    if a.len() != A {
-        return None;
-    }
-    let header = Header::read(&a[..512]).ok()?;
-    header.accept().ok()?;
-    let mut stations = vec![];
-    for i in 0..header.n() {
-        let o = 512 + 47 * i;
-        for k in 24..40 {
-            if a[o + k] > 1 {
-                return None;
-            }
-        }
-        stations.push(Station {
-            counts: std::array::from_fn(|k| le16(a, o + 2 * k)),
-            sent: std::array::from_fn(|k| a[o + 16 + k]),
-            req_seen: std::array::from_fn(|k| a[o + 24 + k] == 1),
-            done_seen: std::array::from_fn(|k| a[o + 32 + k] == 1),
-            phase: le32(a, o + 40),
-            own_entries: le16(a, o + 44),
-            mode: match a[o + 46] {
-                0 => Mode::Normal,
-                1 => Mode::Mute,
-                2 => Mode::StandBy,
-                _ => return None,
-            },
-        });
-    }
-    let mut links = empty_links();
-    for i in 0..8 {
-        for j in 0..8 {
-            let o = 888 + 715 * (8 * i + j);
-            if a[o] > 34 {
-                return None;
-            }
-            for k in 0..a[o] as usize {
-                let q = o + 1 + 21 * k;
-                links[i][j].push_back(match a[q] {
-                    1 => Item::Message(Message {
-                        register: le32(a, q + 1),
-                        counts: std::array::from_fn(|c| le16(a, q + 5 + 2 * c)),
-                    }),
-                    2 => Item::ResetReq,
-                    3 => Item::ResetDone,
-                    _ => return None,
-                });
-            }
-        }
-    }
-    let s = State::from_parts(header, stations, links);
-    if s.is_well_formed() && image(&s) == a {
-        Some(s)
-    } else {
-        None
-    }
-}
 fn digest(s: &[u8]) -> u64 {
     let mut h = 1u64;
     for &b in s {
@@ -119,7 +14,7 @@ fn digest(s: &[u8]) -> u64 {
     h
 }
 fn num(e: reference::refusal::Refusal) -> u8 {
-    e.number() as u8
+    e.number()
 }
 // One call: the answer without its number, and the refusal's number or 0.
 fn step(a: &mut Vec<u8>, n: usize, kind: u32, i: usize, j: usize, reg: u32) -> (String, u8) {
@@ -139,7 +34,7 @@ fn step(a: &mut Vec<u8>, n: usize, kind: u32, i: usize, j: usize, reg: u32) -> (
         },
         _ => Step::Start { station: i },
     };
-    let Some(mut s) = parse(a) else {
+    let Ok(mut s) = area::read(a) else {
         return ("no 2".into(), 2);
     };
     let before = s.clone();
@@ -149,7 +44,7 @@ fn step(a: &mut Vec<u8>, n: usize, kind: u32, i: usize, j: usize, reg: u32) -> (
             (format!("no {}", num(e)), num(e))
         }
         Ok(Answer::Entry(r)) => {
-            *a = image(&s);
+            *a = area::image(&s);
             let c: Vec<String> = r.counts[..n].iter().map(|x| x.to_string()).collect();
             (
                 format!("entry {} {} {}", r.phase, r.station, c.join(" ")),
@@ -157,7 +52,7 @@ fn step(a: &mut Vec<u8>, n: usize, kind: u32, i: usize, j: usize, reg: u32) -> (
             )
         }
         Ok(Answer::Mode { mode, phase }) => {
-            *a = image(&s);
+            *a = area::image(&s);
             (format!("mode {} {} {}", phase, i, mode.word()), 0)
         }
     }
@@ -171,9 +66,9 @@ fn call(a: &mut Vec<u8>, number: usize, n: usize, r: [u32; 4]) {
         );
         return;
     }
-    match parse(a) {
-        None => println!("{number} rest refused 2"),
-        Some(s) => println!(
+    match area::read(a) {
+        Err(_) => println!("{number} rest refused 2"),
+        Ok(s) => println!(
             "{} rest {}",
             number,
             if s.rest().unwrap() { "yes" } else { "no" }
@@ -215,7 +110,7 @@ fn fresh(a: &mut Vec<u8>, h: Header) -> u8 {
         &h.to_block().map(|b| b.to_vec()).unwrap_or(vec![0; 512]),
     ) {
         Ok(s) => {
-            *a = image(&s);
+            *a = area::image(&s);
             0
         }
         Err(e) => num(e),
@@ -236,7 +131,7 @@ fn setups(name: &str, h: Header, at: usize, by: u8) {
             "{name}: {}",
             match setup_area(al, &b[..bl]) {
                 Ok(s) => {
-                    a = image(&s);
+                    a = area::image(&s);
                     0
                 }
                 Err(e) => num(e),
@@ -255,7 +150,7 @@ fn flips(name: &str, steps: &[[u32; 4]]) {
         let (mut no, mut other) = (0, 0);
         for p in 0..A {
             a[p] = a[p].wrapping_add(by);
-            if parse(&a).is_some() {
+            if area::read(&a).is_ok() {
                 other += 1
             } else {
                 no += 1

@@ -33,5 +33,5 @@ pub fn is_sealed(block: &[u8]) -> bool {
 
 /// Whether every byte is zero.
 pub(crate) fn all_zero(bytes: &[u8]) -> bool {
-    bytes.iter().all(|&byte| byte == 0)
+    bytes.iter().fold(0, |all, &byte| all | byte) == 0
 }

@@ -1,6 +1,7 @@
 //! A second implementation of the specification (document 01), written
 //! straight from its text in plain Rust. It is meant to be compared with the
-//! proved library on many inputs, and shares no code and no definition with it.
+//! proved library on many inputs, and shares no code and no definition with it
+//! but the layout of the state area.
 //!
 //! Names follow the standard terms of distributed systems: a *message* is the
 //! document's note, a *timestamp* its stamp, *happened-before* its recorded
@@ -14,6 +15,7 @@
 //! | [`order`] | 'Plain network and recorded order', timestamp order and verdicts |
 //! | [`archive`] | 'Archive blocks', archives, readers and lists |
 //! | [`network`] | 'The network', 'What a station holds', 'The steps', 'State area and host' |
+//! | [`area`], [`in_place`] | 'State area and host', with the layout of docs/LAYOUT.md |
 //! | [`causality`] | 'Plain network and recorded order', demand 3 |
 //! | [`turnover`] | 'turnover' |
 //! | [`random`], [`generate`] | none: inputs for tests and comparisons |
@@ -22,11 +24,13 @@
 #![warn(missing_docs)]
 
 pub mod archive;
+pub mod area;
 pub mod causality;
 pub mod check;
 pub mod entries;
 pub mod generate;
 pub mod header;
+pub mod in_place;
 pub mod network;
 pub mod order;
 pub mod random;

@@ -1,0 +1,207 @@
+//! The bytes and steps that both sides are timed on.
+
+use reference::generate::any_register;
+use reference::header::Header;
+use reference::network::{Item, Message, State, Step};
+use reference::random::Rng;
+use reference::record::{Kind, Record, NO_PEER};
+use reference::turnover::DEFAULT_LIMIT;
+use reference::{archive, area, Counts};
+
+/// Items that a busy link holds, of 34 places.
+const BUSY: u16 = 30;
+
+/// Eight stations with links between all of them, each of limit 32.
+pub fn complete_network() -> Header {
+    let mut header = Header::new(8, 65_535);
+    for i in 0..8 {
+        header.allowances[i] = 60_000;
+        for j in 0..8 {
+            header.limits[i][j] = if i == j { 0 } else { 32 };
+        }
+    }
+    header
+}
+
+fn initial() -> State {
+    State::initial(&complete_network()).expect("a network")
+}
+
+/// The complete network with empty links.
+pub fn idle_area() -> Vec<u8> {
+    area::image(&initial())
+}
+
+/// The complete network with every link nearly full of messages.
+pub fn busy_area() -> Vec<u8> {
+    let mut state = initial();
+    for i in 0..8 {
+        for j in (0..8).filter(|&j| j != i) {
+            for k in 0..BUSY {
+                let message = Message {
+                    register: u32::from(k),
+                    counts: std::array::from_fn(|c| 100 * c as u16 + k),
+                };
+                state.links[i][j].push_back(Item::Message(message));
+            }
+            state.stations[i].sent[j] = BUSY as u8;
+        }
+        state.stations[i].counts[i] = 1000;
+    }
+    area::image(&state)
+}
+
+fn pairs() -> impl Iterator<Item = (usize, usize)> {
+    (0..8).flat_map(|i| (0..8).filter(move |&j| j != i).map(move |j| (i, j)))
+}
+
+/// Own entries of all stations.
+pub fn entries() -> Vec<Step> {
+    (0..800)
+        .map(|k| Step::Enter {
+            station: k % 8,
+            register: k as u32,
+        })
+        .collect()
+}
+
+/// On each link some messages, each received before the next is sent.
+pub fn messages() -> Vec<Step> {
+    let mut steps = Vec::new();
+    for k in 0..5 {
+        for (i, j) in pairs() {
+            steps.push(Step::Send {
+                station: i,
+                peer: j,
+                register: k,
+            });
+            steps.push(Step::Recv {
+                station: j,
+                peer: i,
+            });
+        }
+    }
+    steps
+}
+
+/// Some messages of each link are received.
+pub fn receipts() -> Vec<Step> {
+    let recv = |(i, j)| Step::Recv {
+        station: i,
+        peer: j,
+    };
+    (0..10).flat_map(|_| pairs().map(recv)).collect()
+}
+
+/// All stations start a reset and go through it.
+pub fn reset() -> Vec<Step> {
+    let mut steps: Vec<Step> = (0..8).map(|station| Step::Start { station }).collect();
+    for _ in 0..2 {
+        steps.extend(pairs().map(|(i, j)| Step::Recv {
+            station: i,
+            peer: j,
+        }));
+    }
+    steps
+}
+
+/// Records of eight stations that make entries and pass messages at random; a
+/// new phase begins after each 100,000.
+fn run_records(count: usize) -> Vec<Record> {
+    let mut rng = Rng::new(1);
+    let mut counts: [Counts; 8] = Default::default();
+    let mut sent: Vec<(usize, usize, u32, Counts)> = Vec::new();
+    let mut records = Vec::with_capacity(count);
+    for k in 0..count {
+        if k % 100_000 == 0 {
+            counts = Default::default();
+            sent.clear();
+        }
+        let mut station = rng.index(8);
+        let mut register = any_register(&mut rng);
+        let mut peer = NO_PEER;
+        let mut kind = Kind::Own;
+        match rng.below(3) {
+            0 if !sent.is_empty() => {
+                let (from, to, its_register, its) = sent.swap_remove(rng.index(sent.len()));
+                (station, peer, kind, register) = (to, from as u8, Kind::Received, its_register);
+                for (count, its) in counts[to].iter_mut().zip(its) {
+                    *count = (*count).max(its);
+                }
+                counts[to][to] += 1;
+            }
+            1 => {
+                let to = (station + 1 + rng.index(7)) % 8;
+                (peer, kind) = (to as u8, Kind::Sent);
+                counts[station][station] += 1;
+                sent.push((station, to, register, counts[station]));
+            }
+            _ => counts[station][station] += 1,
+        }
+        records.push(Record {
+            kind,
+            station: station as u8,
+            peer,
+            phase: (k / 100_000) as u32,
+            register,
+            counts: counts[station],
+        });
+    }
+    records
+}
+
+/// An archive of so many records.
+pub fn archive_of(count: usize) -> Vec<u8> {
+    archive::build(&complete_network(), &run_records(count)).expect("an archive")
+}
+
+/// Pairs of records of one phase.
+pub fn record_pairs(count: usize) -> Vec<([u8; 32], [u8; 32])> {
+    let records = run_records(4 * count);
+    let mut rng = Rng::new(2);
+    let mut any = || records[rng.index(records.len())].to_bytes();
+    (0..count).map(|_| (any(), any())).collect()
+}
+
+/// A script for `turnover` of one station: entries, and a reset where the
+/// allowance is used up.
+pub fn lone_script(steps: usize) -> Vec<u8> {
+    let mut text = String::from("net 1 60000\nallow 0 60000\n");
+    for k in 0..steps {
+        match k % 60_000 {
+            59_999 => text.push_str("start 0\n"),
+            _ => text.push_str(&format!("enter 0 {k}\n")),
+        }
+    }
+    text.into()
+}
+
+/// A script for `turnover` of eight stations: on each link messages up to its
+/// limit, sent and received, with an entry here and there; then a reset.
+pub fn network_script(steps: usize) -> Vec<u8> {
+    let mut text = String::from("net 8 60000\n");
+    for i in 0..8 {
+        text.push_str(&format!("allow {i} 1000\n"));
+        for j in 0..i {
+            text.push_str(&format!("link {i} {j}\n"));
+        }
+    }
+    let mut round = Vec::new();
+    for k in 0..DEFAULT_LIMIT {
+        for (i, j) in pairs() {
+            round.push(format!("send {i} {j} {k}\n"));
+        }
+        for (i, j) in pairs() {
+            round.push(format!("recv {j} {i}\n"));
+            round.push(format!("enter {i} {j}\n"));
+        }
+    }
+    round.extend((0..8).map(|i| format!("start {i}\n")));
+    for _ in 0..2 {
+        round.extend(pairs().map(|(i, j)| format!("recv {i} {j}\n")));
+    }
+    for line in round.iter().cycle().take(steps) {
+        text.push_str(line);
+    }
+    text.into()
+}

@@ -1,0 +1,273 @@
+//! Times of the proved library beside those of the plain Rust implementation
+//! and of a plain read of the same bytes, as a table in markdown.
+//!
+//!     cargo run --release --offline -p bench
+//!
+//! A word behind `--` leaves only the rows whose name has it.
+//!
+//! Both sides do the same work on the same bytes: the area is lent to a step as
+//! 65,536 bytes, tested, and holds the state after it; an archive is tested
+//! whole by every call. Before a row is timed, both sides are run once and what
+//! they leave is compared.
+
+#![forbid(unsafe_code)]
+
+mod inputs;
+mod measure;
+mod programs;
+
+use std::hint::black_box;
+
+use melontime::raw;
+use reference::in_place::{self, archives as placed};
+use reference::network::{Step, AREA};
+use reference::{archive, area, order};
+
+use measure::{print_head, print_row, sides};
+
+/// Prints a row with its name.
+type Row = fn(&str);
+
+/// The sum of the bytes' words: as plain a read as the compiler can vectorise.
+fn read(bytes: &[u8]) -> u64 {
+    let (words, rest) = bytes.as_chunks::<8>();
+    let sum = words.iter().fold(0, |sum: u64, &word| {
+        sum.wrapping_add(u64::from_le_bytes(word))
+    });
+    rest.iter()
+        .fold(sum, |sum, &byte| sum.wrapping_add(byte.into()))
+}
+
+fn library_step(area: &mut [u8], event: &mut [u8], step: Step) -> u64 {
+    match step {
+        Step::Enter { station, register } => raw::enter(area, event, station as u32, register),
+        Step::Send {
+            station,
+            peer,
+            register,
+        } => raw::send(area, event, station as u32, peer as u32, register),
+        Step::Recv { station, peer } => raw::recv(area, event, station as u32, peer as u32),
+        Step::Start { station } => raw::start(area, event, station as u32),
+    }
+}
+
+/// A row of a list of steps, each accepted. The area is put back before each
+/// list, on both sides.
+fn steps_row(what: &str, from: &[u8], steps: &[Step]) {
+    let (mut ours, mut theirs, mut placed) = (from.to_vec(), from.to_vec(), from.to_vec());
+    let (mut our_event, mut their_event, mut placed_event) = ([0; 32], [0; 32], [0; 32]);
+    for &step in steps {
+        let answer = library_step(&mut ours, &mut our_event, step);
+        assert!(answer >= 100, "{step:?} is refused with {answer}");
+        assert!(area::step(&mut theirs, &mut their_event, step).is_ok());
+        assert!(in_place::step(&mut placed, &mut placed_event, step).is_ok());
+        assert!(ours == theirs && our_event == their_event);
+        assert!(ours == placed && our_event == placed_event);
+    }
+    let [library, rust, place, plain] = sides([
+        &mut || {
+            ours.copy_from_slice(from);
+            for &step in steps {
+                black_box(library_step(&mut ours, &mut our_event, step));
+            }
+        },
+        &mut || {
+            theirs.copy_from_slice(from);
+            for &step in steps {
+                let _ = black_box(area::step(&mut theirs, &mut their_event, step));
+            }
+        },
+        &mut || {
+            placed.copy_from_slice(from);
+            for &step in steps {
+                let _ = black_box(in_place::step(&mut placed, &mut placed_event, step));
+            }
+        },
+        &mut || {
+            for _ in steps {
+                black_box(read(black_box(from)));
+            }
+        },
+    ]);
+    let others = [Some(rust), Some(place), Some(plain)];
+    print_row(what, steps.len() as f64, library, others);
+}
+
+fn setup_row(what: &str) {
+    let block = inputs::complete_network().to_block_untested();
+    let (mut ours, mut theirs, mut placed) = (vec![7; AREA], vec![7; AREA], vec![7; AREA]);
+    assert_eq!(raw::setup(&block, &mut ours), 0);
+    assert!(area::setup(&block, &mut theirs).is_ok());
+    assert!(in_place::setup(&block, &mut placed).is_ok());
+    assert!(ours == theirs && ours == placed);
+    let whole = ours.clone();
+    let [library, rust, place, plain] = sides([
+        &mut || {
+            black_box(raw::setup(black_box(&block), &mut ours));
+        },
+        &mut || {
+            let _ = black_box(area::setup(black_box(&block), &mut theirs));
+        },
+        &mut || {
+            let _ = black_box(in_place::setup(black_box(&block), &mut placed));
+        },
+        &mut || {
+            black_box(read(black_box(&whole)));
+        },
+    ]);
+    print_row(what, 1.0, library, [Some(rust), Some(place), Some(plain)]);
+}
+
+fn rest_row(what: &str) {
+    let bytes = &inputs::idle_area()[..];
+    assert_eq!(raw::rest(bytes), 100);
+    assert_eq!(area::rest(bytes), Ok(true));
+    assert_eq!(in_place::rest(bytes), Ok(true));
+    let [library, rust, place, plain] = sides([
+        &mut || {
+            black_box(raw::rest(black_box(bytes)));
+        },
+        &mut || {
+            let _ = black_box(area::rest(black_box(bytes)));
+        },
+        &mut || {
+            let _ = black_box(in_place::rest(black_box(bytes)));
+        },
+        &mut || {
+            black_box(read(black_box(bytes)));
+        },
+    ]);
+    print_row(what, 1.0, library, [Some(rust), Some(place), Some(plain)]);
+}
+
+fn verdict_row(what: &str) {
+    let pairs = inputs::record_pairs(256);
+    for (first, second) in &pairs {
+        let expected = order::verdict(first, second).map(|verdict| 100 + verdict as u64);
+        assert_eq!(Ok(raw::verdict(first, second)), expected);
+    }
+    let [library, rust, plain] = sides([
+        &mut || {
+            for (first, second) in &pairs {
+                black_box(raw::verdict(black_box(first), black_box(second)));
+            }
+        },
+        &mut || {
+            for (first, second) in &pairs {
+                let _ = black_box(order::verdict(black_box(first), black_box(second)));
+            }
+        },
+        &mut || {
+            for (first, second) in &pairs {
+                black_box(read(black_box(first)).wrapping_add(read(black_box(second))));
+            }
+        },
+    ]);
+    let others = [Some(rust), None, Some(plain)];
+    print_row(what, pairs.len() as f64, library, others);
+}
+
+fn archive_row(what: &str) {
+    let bytes = inputs::archive_of(2047 * 15);
+    let expected = archive::record_count(&bytes).expect("an archive");
+    assert_eq!(raw::archive_records(&bytes), 1000 + expected as u64);
+    assert_eq!(placed::record_count(&bytes), Ok(expected));
+    let [library, rust, place, plain] = sides([
+        &mut || {
+            black_box(raw::archive_records(black_box(&bytes)));
+        },
+        &mut || {
+            let _ = black_box(archive::record_count(black_box(&bytes)));
+        },
+        &mut || {
+            let _ = black_box(placed::record_count(black_box(&bytes)));
+        },
+        &mut || {
+            black_box(read(black_box(&bytes)));
+        },
+    ]);
+    let mebibytes = bytes.len() as f64 / f64::from(1 << 20);
+    let others = [Some(rust), Some(place), Some(plain)];
+    print_row(what, mebibytes, library, others);
+}
+
+fn unordered_row(what: &str, count: usize) {
+    let bytes = inputs::archive_of(count);
+    let number = count / 2;
+    let (mut ours, mut theirs, mut list) = (vec![0; count], vec![0; count], vec![0; count]);
+    let listed = archive::unordered_list(&bytes, number, &mut theirs).expect("a list");
+    let answer = raw::unordered(&bytes, number as u64, &mut ours);
+    assert_eq!(answer, 1000 + listed as u64);
+    let answer = placed::unordered_list(&bytes, number, &mut list);
+    assert_eq!(answer, Ok(listed));
+    ours[..listed].sort_unstable();
+    assert!(ours == list && theirs.iter().zip(&list).all(|(&a, &b)| a as u64 == b));
+    let [library, rust, place, plain] = sides([
+        &mut || {
+            black_box(raw::unordered(black_box(&bytes), number as u64, &mut ours));
+        },
+        &mut || {
+            let list = archive::unordered_list(black_box(&bytes), number, &mut theirs);
+            let _ = black_box(list);
+        },
+        &mut || {
+            let list = placed::unordered_list(black_box(&bytes), number, &mut list);
+            let _ = black_box(list);
+        },
+        &mut || {
+            black_box(read(black_box(&bytes)));
+        },
+    ]);
+    let others = [Some(rust), Some(place), Some(plain)];
+    print_row(what, count as f64, library, others);
+}
+
+fn main() -> std::io::Result<()> {
+    if programs::is_reference() {
+        return programs::run_reference();
+    }
+    let wanted = std::env::args().nth(1).unwrap_or_default();
+    let is_wanted = |what: &str| what.contains(&wanted);
+    print_head();
+
+    let (idle, busy) = (inputs::idle_area(), inputs::busy_area());
+    let lists = [
+        ("enter, idle network of eight", &idle, inputs::entries()),
+        (
+            "send and recv, idle network of eight",
+            &idle,
+            inputs::messages(),
+        ),
+        ("a step of a reset of eight", &idle, inputs::reset()),
+        ("enter, busy network of eight", &busy, inputs::entries()),
+        ("recv, busy network of eight", &busy, inputs::receipts()),
+    ];
+    for (what, from, steps) in &lists {
+        if is_wanted(what) {
+            steps_row(what, from, steps);
+        }
+    }
+    let calls: [(&str, Row); 4] = [
+        ("rest, idle network of eight", rest_row),
+        ("setup", setup_row),
+        ("verdict", verdict_row),
+        ("archive test, per MiB", archive_row),
+    ];
+    for (what, row) in calls {
+        if is_wanted(what) {
+            row(what);
+        }
+    }
+    let archives = [
+        ("unordered list of 1,000, per record", 1_000),
+        ("unordered list of 10,000, per record", 10_000),
+        ("unordered list of 100,000, per record", 100_000),
+        ("unordered list of 1,000,000, per record", 1_000_000),
+    ];
+    for (what, count) in archives {
+        if is_wanted(what) {
+            unordered_row(what, count);
+        }
+    }
+    programs::turnover_rows(&wanted)
+}

@@ -1,0 +1,141 @@
+//! The types of the Rust interface against the independent implementation.
+
+use comparison::{cases, in_32_bits};
+use melontime::{
+    archive_bytes, Archive, EntriesBlock, Header, Kind, Mode, Network, Outcome, Record, Refusal,
+    Verdict,
+};
+use reference::generate::{any_network, next_step, Habits};
+use reference::network::{Answer, State, Step};
+use reference::random::Rng;
+
+fn header_of(header: &reference::header::Header) -> Header {
+    Header {
+        n: header.stations,
+        t: header.ceiling,
+        allowances: header.allowances,
+        limits: header.limits,
+    }
+}
+
+fn refusal_of(refusal: reference::refusal::Refusal) -> Refusal {
+    Refusal::from_number(u64::from(refusal.number())).expect("a refusal's number")
+}
+
+fn outcome_of(answer: Answer) -> Outcome {
+    match answer {
+        Answer::Entry(record) => {
+            Outcome::Entry(Record::from_bytes(&record.to_bytes()).expect("a record"))
+        }
+        Answer::Mode { mode, phase } => Outcome::InMode {
+            mode: match mode {
+                reference::network::Mode::Normal => Mode::Normal,
+                reference::network::Mode::Mute => Mode::Mute,
+                reference::network::Mode::StandBy => Mode::StandBy,
+            },
+            phase,
+        },
+    }
+}
+
+fn take(network: &mut Network, step: Step) -> Result<Outcome, Refusal> {
+    match step {
+        Step::Enter { station, register } => {
+            network.enter(station as u32, register).map(Outcome::Entry)
+        }
+        Step::Send {
+            station,
+            peer,
+            register,
+        } => network
+            .send(station as u32, peer as u32, register)
+            .map(Outcome::Entry),
+        Step::Recv { station, peer } => network.recv(station as u32, peer as u32),
+        Step::Start { station } => network.start(station as u32),
+    }
+}
+
+/// The accepted records of a run of both.
+fn run(rng: &mut Rng, header: &reference::header::Header) -> Vec<reference::record::Record> {
+    let mut network = Network::setup(&header_of(header)).expect("a network");
+    let mut state = State::initial(header).expect("a network");
+    let mut records = Vec::new();
+    let mut habits = Habits::any(rng);
+    for _ in 0..400 {
+        if rng.chance(1, 24) {
+            habits = Habits::any(rng);
+        }
+        let step = in_32_bits(next_step(rng, &state, &habits));
+        let answer = state.step(step);
+        let expected = answer.map(outcome_of).map_err(refusal_of);
+        assert_eq!(take(&mut network, step), expected, "{step:?}");
+        assert_eq!(network.rest().ok(), state.rest().ok());
+        if let Ok(Answer::Entry(record)) = answer {
+            records.push(record);
+        }
+    }
+    let stored = Network::from_bytes(network.as_bytes()).expect("an image");
+    assert!(stored == network);
+    records
+}
+
+#[test]
+fn networks_and_archives() {
+    cases("networks_and_archives", 150, |rng| {
+        let header = any_network(rng);
+        let expected = run(rng, &header);
+        let records: Vec<Record> = expected
+            .iter()
+            .map(|record| Record::from_bytes(&record.to_bytes()).expect("a record"))
+            .collect();
+        for (ours, theirs) in records.iter().zip(&expected) {
+            let kind = match theirs.kind {
+                reference::record::Kind::Own => Kind::Own,
+                reference::record::Kind::Sent => Kind::Sent,
+                reference::record::Kind::Received => Kind::Received,
+            };
+            assert_eq!(ours.kind(), kind);
+            assert_eq!(ours.station(), u32::from(theirs.station));
+            let peer = (kind != Kind::Own).then_some(u32::from(theirs.peer));
+            assert_eq!(ours.peer(), peer);
+            assert_eq!(ours.phase(), theirs.phase);
+            assert_eq!(ours.register(), theirs.register);
+            assert_eq!(ours.counts(), theirs.counts);
+        }
+
+        let bytes = archive_bytes(&header_of(&header), &records).expect("an archive");
+        assert_eq!(
+            Ok(&bytes),
+            reference::archive::build(&header, &expected).as_ref()
+        );
+        let archive = Archive::open(&bytes).expect("an archive");
+        assert_eq!(archive.header(), Ok(header_of(&header)));
+        assert_eq!(archive.len(), records.len() as u64);
+        assert!(archive.records().eq(records.iter().copied()));
+        for (block, part) in bytes[512..].chunks(512).zip(records.chunks(15)) {
+            let block = EntriesBlock::open(block).expect("a block");
+            assert_eq!(block.count(), part.len());
+            assert_eq!(block.record(0), Ok(part[0]));
+        }
+        for _ in 0..10 {
+            let number = rng.below(archive.len() + 2);
+            let found = archive.found(number);
+            let list = archive.unordered(number);
+            let Some(&record) = records.get(number as usize) else {
+                assert_eq!(found, Err(Refusal::NoSuchRecord));
+                assert_eq!(list, Err(Refusal::NoSuchRecord));
+                continue;
+            };
+            assert_eq!(found, Ok(record));
+            let mut list = list.expect("a list");
+            list.sort_unstable();
+            let unordered = |other: &Record| record.verdict(other) == Ok(Verdict::Unordered);
+            let right: Vec<u64> = (0..)
+                .zip(&records)
+                .filter(|(_, other)| unordered(other))
+                .map(|(number, _)| number)
+                .collect();
+            assert_eq!(list, right);
+        }
+    });
+}

@@ -1,0 +1,390 @@
+//! Setup, the steps and rest: the library's answers, records and areas against
+//! those of the independent implementation, byte for byte.
+
+use comparison::{cases, in_32_bits, library_step, rested, stepped, written};
+use melontime::raw;
+use reference::area;
+use reference::check::seal;
+use reference::generate::{
+    any_network, any_ranged_header, any_state, damaged_header_block, ill_formed_state, network,
+    next_step, rule_breaker, wild_step, Habits, HeaderDamage, NetworkWish, RuleBreak, Shape,
+    StateDamage,
+};
+use reference::header::Header;
+use reference::network::{Answer, Item, Mode, State, Step, AREA};
+use reference::random::Rng;
+
+/// The bytes of a lent record before a call.
+const EVENT: [u8; 32] = [0xa5; 32];
+
+/// One step by both on copies of an area, and rest before it; both copies are
+/// compared and the library's answered.
+fn compare_step(before: &[u8], step: Step) -> Vec<u8> {
+    let (mut ours, mut theirs) = (before.to_vec(), before.to_vec());
+    let (mut our_event, mut their_event) = (EVENT, EVENT);
+    let answer = library_step(&mut ours, &mut our_event, step);
+    let outcome = area::step(&mut theirs, &mut their_event, step);
+    assert_eq!(answer, stepped(&outcome), "{step:?}");
+    assert_eq!(our_event, their_event, "the record of {step:?}");
+    assert!(ours == theirs, "the area after {step:?}");
+    ours
+}
+
+/// All calls on bytes that may be no image.
+fn compare_calls(rng: &mut Rng, bytes: &[u8]) {
+    assert_eq!(raw::rest(bytes), rested(area::rest(bytes)));
+    for step in one_of_each(rng) {
+        compare_step(bytes, step);
+    }
+}
+
+fn one_of_each(rng: &mut Rng) -> [Step; 4] {
+    let (station, peer) = (rng.index(8), rng.index(8));
+    let register = rng.next_u64() as u32;
+    [
+        Step::Enter { station, register },
+        Step::Send {
+            station,
+            peer,
+            register,
+        },
+        Step::Recv { station, peer },
+        Step::Start { station },
+    ]
+}
+
+/// Changes some bytes: anywhere, among those that are in use, or at the end.
+fn damage(rng: &mut Rng, bytes: &mut [u8]) {
+    for _ in 0..rng.pick(&[1, 1, 1, 2, 5]) {
+        let at = match rng.below(4) {
+            0 => rng.index(AREA),
+            1 => rng.index(area::LINKS_AT),
+            2 => area::link_at(rng.index(8), rng.index(8)) + rng.index(44),
+            _ => area::station_at(rng.index(8)) + rng.index(area::STATION),
+        };
+        bytes[at] = match rng.below(4) {
+            0 => bytes[at].wrapping_add(1),
+            1 => bytes[at].wrapping_sub(1),
+            2 => rng.below(4) as u8,
+            _ => rng.next_u64() as u8,
+        };
+    }
+    // A header that is sealed again is refused for its fields alone.
+    if rng.chance(1, 2) {
+        seal((&mut bytes[..512]).try_into().expect("a block"));
+    }
+}
+
+/// Runs a list of steps from setup on, comparing at each.
+fn run(rng: &mut Rng, header: &Header, length: usize) {
+    let block = header.to_block().expect("fields in their ranges");
+    let mut bytes = vec![rng.next_u64() as u8; AREA];
+    assert_eq!(raw::setup(&block, &mut bytes), 0);
+    let mut state = State::initial(header).expect("a network");
+    assert!(bytes == area::image(&state), "the initial area");
+    let mut habits = Habits::any(rng);
+    let mut image = bytes.clone();
+    for _ in 0..length {
+        if rng.chance(1, 24) {
+            habits = Habits::any(rng);
+        }
+        let step = in_32_bits(next_step(rng, &state, &habits));
+        let mut event = EVENT;
+        let answer = library_step(&mut bytes, &mut event, step);
+        let outcome = state.step(step);
+        assert_eq!(answer, stepped(&outcome), "{step:?}");
+        match outcome {
+            Ok(Answer::Entry(record)) => assert_eq!(event, record.to_bytes(), "{step:?}"),
+            _ => assert_eq!(event, EVENT, "{step:?} is to leave the record area"),
+        }
+        area::write(&state, &mut image);
+        assert!(bytes == image, "the area after {step:?}");
+        assert_eq!(raw::rest(&bytes), rested(state.rest()));
+        if rng.chance(1, 50) {
+            let mut damaged = bytes.clone();
+            damage(rng, &mut damaged);
+            compare_calls(rng, &damaged);
+        }
+    }
+}
+
+#[test]
+fn lists_of_steps() {
+    cases("lists_of_steps", 200, |rng| {
+        let header = any_network(rng);
+        run(rng, &header, 2_500);
+    });
+}
+
+#[test]
+fn lists_on_every_shape() {
+    cases("lists_on_every_shape", 6, |rng| {
+        for shape in Shape::ALL {
+            for small in [false, true] {
+                let wish = NetworkWish {
+                    shape: Some(shape),
+                    small,
+                    ..NetworkWish::default()
+                };
+                let header = network(rng, wish);
+                run(rng, &header, 2_000);
+            }
+        }
+    });
+}
+
+#[test]
+fn any_well_formed_state() {
+    cases("any_well_formed_state", 800, |rng| {
+        let state = any_state(rng);
+        let bytes = area::image(&state);
+        assert_eq!(raw::rest(&bytes), rested(state.rest()));
+        for _ in 0..40 {
+            let step = match rng.below(4) {
+                0 => wild_step(rng),
+                _ => {
+                    let habits = Habits::any(rng);
+                    next_step(rng, &state, &habits)
+                }
+            };
+            compare_step(&bytes, in_32_bits(step));
+        }
+        // A list from there, each step on the area that the last one left.
+        let mut bytes = bytes;
+        for _ in 0..40 {
+            let state = area::read(&bytes).expect("a step leaves an image");
+            let habits = Habits::any(rng);
+            let step = in_32_bits(next_step(rng, &state, &habits));
+            bytes = compare_step(&bytes, step);
+        }
+    });
+}
+
+#[test]
+fn ill_formed_states() {
+    cases("ill_formed_states", 120, |rng| {
+        for way in StateDamage::ALL {
+            let state = ill_formed_state(rng, way);
+            let links = state.links.iter().flatten();
+            let has_places =
+                state.stations.len() <= 8 && links.into_iter().all(|link| link.len() <= 34);
+            if has_places {
+                compare_calls(rng, &area::image(&state));
+            }
+        }
+    });
+}
+
+#[test]
+fn damaged_areas() {
+    cases("damaged_areas", 4_000, |rng| {
+        let mut bytes = area::image(&any_state(rng));
+        damage(rng, &mut bytes);
+        compare_calls(rng, &bytes);
+    });
+}
+
+#[test]
+fn each_byte_of_an_area() {
+    cases("each_byte_of_an_area", 3, |rng| {
+        let mut bytes = area::image(&any_state(rng));
+        let mut images = 0;
+        for at in 0..AREA {
+            let right = bytes[at];
+            bytes[at] ^= rng.range(1, 255) as u8;
+            let expected = rested(area::rest(&bytes));
+            assert_eq!(raw::rest(&bytes), expected, "byte {at}");
+            images += u32::from(expected != 2);
+            bytes[at] = right;
+        }
+        println!("each_byte_of_an_area: {images} changes gave another image");
+    });
+}
+
+#[test]
+fn areas_of_wrong_length() {
+    cases("areas_of_wrong_length", 20, |rng| {
+        let image = area::image(&any_state(rng));
+        let long = [&image[..], &image[..]].concat();
+        for length in [0, 1, 511, 512, 888, AREA - 1, AREA + 1, 2 * AREA] {
+            compare_calls(rng, &long[..length]);
+        }
+        // A wrong record area is told before a wrong area, and both are left.
+        for length in [0, 1, 31, 33, 64] {
+            for area_length in [AREA, AREA - 1] {
+                for step in one_of_each(rng) {
+                    let mut bytes = image[..area_length].to_vec();
+                    let mut event = vec![7; length];
+                    assert_eq!(library_step(&mut bytes, &mut event, step), 11);
+                    assert!(bytes == image[..area_length] && event == vec![7; length]);
+                }
+            }
+        }
+    });
+}
+
+/// Setup by both on areas filled with one byte.
+fn compare_setup(rng: &mut Rng, block: &[u8]) -> u64 {
+    let fill = rng.next_u64() as u8;
+    let (mut ours, mut theirs) = (vec![fill; AREA], vec![fill; AREA]);
+    let answer = raw::setup(block, &mut ours);
+    assert_eq!(answer, written(area::setup(block, &mut theirs)));
+    assert!(ours == theirs, "the area after setup");
+    answer
+}
+
+#[test]
+fn setups() {
+    cases("setups", 1_500, |rng| {
+        let header = any_network(rng);
+        assert_eq!(compare_setup(rng, &header.to_block_untested()), 0);
+        for way in RuleBreak::ALL {
+            let header = rule_breaker(rng, way);
+            assert_eq!(compare_setup(rng, &header.to_block_untested()), 3);
+        }
+        let header = any_ranged_header(rng);
+        compare_setup(rng, &header.to_block_untested());
+        for way in HeaderDamage::ALL {
+            let block = damaged_header_block(rng, way);
+            assert_eq!(compare_setup(rng, &block), 1);
+        }
+        // Two changes in a header's fields, sealed again: 0, 1 or 3.
+        let mut block = any_network(rng).to_block_untested();
+        for _ in 0..2 {
+            block[rng.index(96)] = rng.below(40) as u8;
+        }
+        seal(&mut block);
+        compare_setup(rng, &block);
+    });
+}
+
+#[test]
+fn each_byte_of_a_header() {
+    cases("each_byte_of_a_header", 10, |rng| {
+        let right = any_network(rng).to_block_untested();
+        for at in 0..512 {
+            let mut block = right;
+            block[at] ^= rng.range(1, 255) as u8;
+            assert_eq!(compare_setup(rng, &block), 1, "byte {at}");
+            seal(&mut block);
+            compare_setup(rng, &block);
+        }
+    });
+}
+
+#[test]
+fn setup_tries_the_area_first() {
+    cases("setup_tries_the_area_first", 20, |rng| {
+        let right = any_network(rng).to_block_untested();
+        let rule = rule_breaker(rng, RuleBreak::SumAboveCeiling).to_block_untested();
+        for block in [&right[..], &rule[..], &right[..511], &[]] {
+            for length in [0, 512, AREA - 1, AREA + 1] {
+                let mut bytes = vec![9; length];
+                assert_eq!(raw::setup(block, &mut bytes), 11);
+                assert!(bytes == vec![9; length]);
+            }
+        }
+        for length in [0, 1, 511] {
+            assert_eq!(compare_setup(rng, &right[..length]), 1);
+        }
+        let long = [&right[..], &[0]].concat();
+        assert_eq!(compare_setup(rng, &long), 1);
+    });
+}
+
+/// Where several refusals apply, the one that is told: 2, 4, 7, 5, 8, 6, 9.
+#[test]
+fn order_of_refusals() {
+    let mut header = Header::new(2, 40);
+    header.allowances = [3, 3, 0, 0, 0, 0, 0, 0];
+    (header.limits[0][1], header.limits[1][0]) = (2, 2);
+    let mut state = State::initial(&header).expect("a network");
+    let full = [Item::ResetReq; 4];
+    // Everything is against station 0: it is mute in the last phase with its
+    // counts, allowance and limit used up and a full link.
+    state.stations[0].mode = Mode::Mute;
+    state.stations[0].phase = 999_999;
+    state.stations[0].counts[0] = 40;
+    state.stations[0].own_entries = 3;
+    state.stations[0].sent[1] = 2;
+    state.links[0][1].extend(full);
+
+    let ask = |state: &State, step: Step| {
+        let mut bytes = area::image(state);
+        library_step(&mut bytes, &mut EVENT.clone(), step)
+    };
+    let enter = |station| Step::Enter {
+        station,
+        register: 7,
+    };
+    let send = |station, peer| Step::Send {
+        station,
+        peer,
+        register: 7,
+    };
+    let recv = |station, peer| Step::Recv { station, peer };
+    let start = |station| Step::Start { station };
+
+    let mut ill = state.clone();
+    ill.stations[1].phase = 1_000_000;
+    for step in [enter(2), send(0, 0), send(0, 1), recv(0, 1), start(0)] {
+        assert_eq!(ask(&ill, step), 2);
+    }
+    for step in [enter(2), send(2, 0), send(0, 0), send(0, 2)] {
+        assert_eq!(ask(&state, step), 4);
+    }
+    for step in [recv(0, 0), recv(2, 1), recv(0, 9), start(2)] {
+        assert_eq!(ask(&state, step), 4);
+    }
+    assert_eq!(ask(&state, recv(0, 1)), 7);
+    assert_eq!(ask(&state, send(0, 1)), 5);
+    assert_eq!(ask(&state, start(0)), 5);
+    assert_eq!(ask(&state, enter(0)), 6);
+    state.stations[0].mode = Mode::Normal;
+    assert_eq!(ask(&state, start(0)), 8);
+    assert_eq!(ask(&state, send(0, 1)), 6);
+    state.stations[0].own_entries = 2;
+    state.stations[0].sent[1] = 1;
+    state.stations[0].phase = 999_998;
+    for step in [enter(0), send(0, 1), start(0)] {
+        assert_eq!(ask(&state, step), 9);
+    }
+    state.stations[0].counts[0] = 39;
+    assert_eq!(ask(&state, enter(0)), 100);
+    assert_eq!(ask(&state, send(0, 1)), 9);
+    state.links[0][1].clear();
+    assert_eq!(ask(&state, send(0, 1)), 100);
+    assert_eq!(ask(&state, start(0)), 1000 + 4 * 999_998 + 1);
+}
+
+/// Every refusal of the steps is met, so that none goes uncompared.
+#[test]
+fn every_answer_is_met() {
+    let mut met = std::collections::BTreeSet::new();
+    let mut rng = Rng::new(1);
+    for _ in 0..400 {
+        let state = any_state(&mut rng);
+        let mut bytes = area::image(&state);
+        if rng.chance(1, 20) {
+            bytes[AREA - 1] = 1;
+        }
+        for _ in 0..20 {
+            let mut step = in_32_bits(wild_step(&mut rng));
+            if rng.chance(1, 2) {
+                let habits = Habits::any(&mut rng);
+                step = next_step(&mut rng, &state, &habits);
+            }
+            let mut after = bytes.clone();
+            let mut event = EVENT;
+            let length = if rng.chance(1, 50) { 31 } else { 32 };
+            let answer = library_step(&mut after, &mut event[..length], in_32_bits(step));
+            met.insert(if answer < 1000 {
+                answer
+            } else {
+                1000 + (answer - 1000) % 4
+            });
+        }
+    }
+    let all = [2, 4, 5, 6, 7, 8, 9, 11, 100, 1000, 1001, 1002];
+    assert_eq!(met.into_iter().collect::<Vec<u64>>(), all);
+}

@@ -1,0 +1,119 @@
+//! The proved program `turnover` against the independent implementation, and
+//! both against the expected outputs in the folder `examples`. `rt check
+//! turnover` builds the program.
+
+use std::fs;
+use std::io::{Read, Write};
+use std::path::{Path, PathBuf};
+use std::process::{Command, Stdio};
+use std::thread;
+
+use comparison::cases;
+use reference::generate::{mutated_script, script, script_text};
+use reference::random::Rng;
+use reference::turnover::turnover;
+
+fn root() -> PathBuf {
+    Path::new(env!("CARGO_MANIFEST_DIR")).join("../..")
+}
+
+/// The proved program.
+fn program() -> PathBuf {
+    let path = root().join("target/bin/turnover");
+    assert!(
+        path.exists(),
+        "target/bin/turnover is not there: run `rt check turnover` in the root of the repository"
+    );
+    path
+}
+
+/// What the program writes for an input.
+fn run(program: &Path, input: &[u8]) -> Vec<u8> {
+    let mut child = Command::new(program)
+        .stdin(Stdio::piped())
+        .stdout(Stdio::piped())
+        .spawn()
+        .expect("the program starts");
+    let mut stdin = child.stdin.take().expect("a pipe");
+    let mut stdout = child.stdout.take().expect("a pipe");
+    let mut output = Vec::new();
+    thread::scope(|scope| {
+        scope.spawn(move || {
+            // A refused setup ends the program before it has read everything.
+            let _ = stdin.write_all(input);
+        });
+        stdout.read_to_end(&mut output).expect("its output");
+    });
+    assert!(child.wait().expect("it ends").success());
+    output
+}
+
+fn compare(program: &Path, input: &[u8]) {
+    let (ours, theirs) = (run(program, input), turnover(input));
+    if ours != theirs {
+        println!("input:\n{}", String::from_utf8_lossy(input));
+        println!("library:\n{}", String::from_utf8_lossy(&ours));
+        println!("reference:\n{}", String::from_utf8_lossy(&theirs));
+        panic!("the outputs differ");
+    }
+}
+
+#[test]
+fn scripts() {
+    let program = program();
+    cases("scripts", 400, |rng| {
+        let lines = script(rng, 300);
+        let last_feed = rng.chance(3, 4);
+        compare(&program, &script_text(&lines, last_feed));
+        compare(&program, &mutated_script(rng, 60));
+    });
+}
+
+#[test]
+fn long_script() {
+    let program = program();
+    cases("long_script", 1, |rng: &mut Rng| {
+        let lines = script(rng, 30_000);
+        compare(&program, &script_text(&lines, true));
+    });
+}
+
+#[test]
+fn odd_inputs() {
+    let program = program();
+    for input in [
+        "",
+        "\n",
+        "\n\n",
+        "net 1 5",
+        "net 1 5\n",
+        "net 9 5",
+        "start 0",
+        "\0",
+    ] {
+        compare(&program, input.as_bytes());
+    }
+    let long_line = "enter 0 ".to_owned() + &"1".repeat(200_000);
+    compare(
+        &program,
+        format!("net 1 5\n{long_line}\nstart 0\n").as_bytes(),
+    );
+}
+
+#[test]
+fn examples() {
+    let program = program();
+    let mut count = 0;
+    for entry in fs::read_dir(root().join("examples")).expect("the folder") {
+        let path = entry.expect("a file").path();
+        if path.extension() != Some("in".as_ref()) {
+            continue;
+        }
+        count += 1;
+        let input = fs::read(&path).expect("the input");
+        let expected = fs::read(path.with_extension("out")).expect("the output");
+        assert_eq!(run(&program, &input), expected, "{}", path.display());
+        assert_eq!(turnover(&input), expected, "{}", path.display());
+    }
+    assert!(count >= 30, "{count} examples");
+}

@@ -1,0 +1,477 @@
+//! A register of four stations, each on a thread of its own.
+//!
+//! The host owns the network and serves the stations over byte streams. The
+//! stations pass their messages to each other over streams of their own; what
+//! the network's links hold tells them when one is theirs to take. Each does a
+//! fixed amount of work, more than its allowance of a phase, so that resets
+//! happen along the way. In the end the accepted records are written to an
+//! archive, which is read back, tested and questioned.
+//!
+//!     cargo run --release --offline -p melontime --example register
+
+use std::collections::HashMap;
+use std::error::Error;
+use std::io::{self, Read, Write};
+use std::os::unix::net::UnixStream;
+use std::sync::{Arc, Mutex};
+use std::thread;
+use std::time::{Duration, Instant};
+use std::{env, fs, process};
+
+use melontime::{
+    archive_bytes, Archive, Header, Kind, Mode, Network, Outcome, Record, Refusal, Verdict,
+};
+
+const STATIONS: u32 = 4;
+/// The links: a ring.
+const LINKS: [(u32, u32); 4] = [(0, 1), (1, 2), (2, 3), (3, 0)];
+/// Own entries in a phase, and messages in a phase on a link.
+const ALLOWANCE: u16 = 5;
+const LIMIT: u8 = 3;
+/// A station's work: own entries, and messages to each neighbour.
+const ENTRIES: u32 = 22;
+const MESSAGES: u32 = 10;
+/// How long a station waits for the others.
+const PATIENCE: Duration = Duration::from_secs(60);
+
+fn neighbours(station: u32) -> Vec<u32> {
+    let other = |&(i, j): &(u32, u32)| match station {
+        s if s == i => Some(j),
+        s if s == j => Some(i),
+        _ => None,
+    };
+    LINKS.iter().filter_map(other).collect()
+}
+
+// ----- what a station and the host say to each other -----
+
+/// A request, 9 bytes: a letter and two numbers.
+#[derive(Clone, Copy)]
+enum Request {
+    Enter(u32),
+    Send(u32, u32),
+    Recv(u32),
+    Start,
+    /// The station's work is done, and every message for it has come.
+    Finished,
+    /// Whether all have finished and the network is at rest.
+    Over,
+}
+
+impl Request {
+    fn to_bytes(self) -> [u8; 9] {
+        let (letter, a, b) = match self {
+            Request::Enter(register) => (b'e', register, 0),
+            Request::Send(peer, register) => (b's', peer, register),
+            Request::Recv(peer) => (b'r', peer, 0),
+            Request::Start => (b't', 0, 0),
+            Request::Finished => (b'f', 0, 0),
+            Request::Over => (b'o', 0, 0),
+        };
+        let mut bytes = [letter; 9];
+        bytes[1..5].copy_from_slice(&a.to_le_bytes());
+        bytes[5..].copy_from_slice(&b.to_le_bytes());
+        bytes
+    }
+
+    fn from_bytes(bytes: [u8; 9]) -> Option<Request> {
+        let long = |at: usize| bytes[at..at + 4].try_into().map(u32::from_le_bytes).ok();
+        let (a, b) = (long(1)?, long(5)?);
+        match bytes[0] {
+            b'e' => Some(Request::Enter(a)),
+            b's' => Some(Request::Send(a, b)),
+            b'r' => Some(Request::Recv(a)),
+            b't' => Some(Request::Start),
+            b'f' => Some(Request::Finished),
+            b'o' => Some(Request::Over),
+            _ => None,
+        }
+    }
+}
+
+/// A reply, 33 bytes: a letter and what belongs to it.
+#[derive(Clone, Copy)]
+enum Reply {
+    Refused(Refusal),
+    Entry(Record),
+    InMode(Mode, u32),
+    Is(bool),
+}
+
+impl Reply {
+    fn of(result: Result<Outcome, Refusal>) -> Reply {
+        match result {
+            Ok(Outcome::Entry(record)) => Reply::Entry(record),
+            Ok(Outcome::InMode { mode, phase }) => Reply::InMode(mode, phase),
+            Err(refusal) => Reply::Refused(refusal),
+        }
+    }
+
+    fn to_bytes(self) -> [u8; 33] {
+        let mut bytes = [0; 33];
+        match self {
+            Reply::Refused(refusal) => bytes[..2].copy_from_slice(&[b'n', refusal.number()]),
+            Reply::Entry(record) => {
+                bytes[0] = b'e';
+                bytes[1..].copy_from_slice(record.as_bytes());
+            }
+            Reply::InMode(mode, phase) => {
+                bytes[..2].copy_from_slice(&[b'm', mode as u8]);
+                bytes[2..6].copy_from_slice(&phase.to_le_bytes());
+            }
+            Reply::Is(yes) => bytes[..2].copy_from_slice(&[b'i', u8::from(yes)]),
+        }
+        bytes
+    }
+
+    fn from_bytes(bytes: [u8; 33]) -> Option<Reply> {
+        let phase = u32::from_le_bytes(bytes[2..6].try_into().ok()?);
+        match (bytes[0], bytes[1]) {
+            (b'n', number) => Refusal::from_number(number.into()).map(Reply::Refused),
+            (b'e', _) => Record::from_bytes(&bytes[1..]).ok().map(Reply::Entry),
+            (b'm', 0) => Some(Reply::InMode(Mode::Normal, phase)),
+            (b'm', 1) => Some(Reply::InMode(Mode::Mute, phase)),
+            (b'm', 2) => Some(Reply::InMode(Mode::StandBy, phase)),
+            (b'i', yes) => Some(Reply::Is(yes == 1)),
+            _ => None,
+        }
+    }
+}
+
+// ----- the host -----
+
+/// What the host keeps: the network and the accepted records, in the order of
+/// the steps.
+struct Register {
+    network: Network,
+    records: Vec<Record>,
+    finished: u32,
+}
+
+impl Register {
+    fn answer(&mut self, station: u32, request: Request) -> Reply {
+        let network = &mut self.network;
+        let result = match request {
+            Request::Enter(register) => network.enter(station, register).map(Outcome::Entry),
+            Request::Send(peer, register) => {
+                network.send(station, peer, register).map(Outcome::Entry)
+            }
+            Request::Recv(peer) => network.recv(station, peer),
+            Request::Start => network.start(station),
+            Request::Finished => {
+                self.finished += 1;
+                return Reply::Is(true);
+            }
+            Request::Over => {
+                let rest = network.rest().expect("the area is the host's own");
+                return Reply::Is(self.finished == STATIONS && rest);
+            }
+        };
+        if let Ok(Outcome::Entry(record)) = result {
+            self.records.push(record);
+        }
+        Reply::of(result)
+    }
+}
+
+/// Serves one station until it hangs up.
+fn serve(register: &Mutex<Register>, station: u32, mut stream: UnixStream) -> io::Result<()> {
+    let mut request = [0; 9];
+    loop {
+        match stream.read_exact(&mut request) {
+            Ok(()) => {}
+            Err(end) if end.kind() == io::ErrorKind::UnexpectedEof => return Ok(()),
+            Err(error) => return Err(error),
+        }
+        let request = Request::from_bytes(request).ok_or(io::ErrorKind::InvalidData)?;
+        let reply = register
+            .lock()
+            .expect("no server has panicked")
+            .answer(station, request);
+        stream.write_all(&reply.to_bytes())?;
+    }
+}
+
+// ----- a station -----
+
+struct Station {
+    number: u32,
+    host: UnixStream,
+    /// The stream to and from each neighbour.
+    peers: Vec<(u32, UnixStream)>,
+    received: u32,
+}
+
+/// What a message says, beside its register number.
+fn text_of(from: u32, register: u32) -> String {
+    format!("message {register} of station {from}")
+}
+
+impl Station {
+    fn ask(&mut self, request: Request) -> io::Result<Reply> {
+        self.host.write_all(&request.to_bytes())?;
+        let mut reply = [0; 33];
+        self.host.read_exact(&mut reply)?;
+        Reply::from_bytes(reply).ok_or(io::ErrorKind::InvalidData.into())
+    }
+
+    /// Takes what has come on each link; false where there was nothing.
+    fn take_all(&mut self) -> io::Result<bool> {
+        let mut some = false;
+        for k in 0..self.peers.len() {
+            let peer = self.peers[k].0;
+            match self.ask(Request::Recv(peer))? {
+                Reply::Entry(record) => {
+                    let stream = &mut self.peers[k].1;
+                    let mut head = [0; 5];
+                    stream.read_exact(&mut head)?;
+                    let mut text = vec![0; usize::from(head[4])];
+                    stream.read_exact(&mut text)?;
+                    // The network's message and the one that came are the same.
+                    assert_eq!(head[..4], record.register().to_le_bytes());
+                    assert_eq!(text, text_of(peer, record.register()).as_bytes());
+                    self.received += 1;
+                    some = true;
+                }
+                Reply::InMode(..) => some = true,
+                Reply::Refused(Refusal::EmptyLink) => {}
+                _ => return Err(io::ErrorKind::InvalidData.into()),
+            }
+        }
+        Ok(some)
+    }
+
+    /// Tries a piece of work; true where it is done. Where this phase allows no
+    /// more of it, a reset is asked for.
+    fn try_work(&mut self, work: Request) -> io::Result<bool> {
+        match self.ask(work)? {
+            Reply::Entry(record) => {
+                if let Request::Send(peer, register) = work {
+                    assert_eq!(record.register(), register);
+                    let text = text_of(self.number, register);
+                    let mut frame = register.to_le_bytes().to_vec();
+                    frame.push(text.len() as u8);
+                    frame.extend(text.as_bytes());
+                    let stream = self.peers.iter_mut().find(|(other, _)| *other == peer);
+                    stream.expect("a neighbour").1.write_all(&frame)?;
+                }
+                Ok(true)
+            }
+            Reply::Refused(Refusal::UsedUp) => match self.ask(Request::Start)? {
+                Reply::InMode(..) | Reply::Refused(Refusal::ModeForbids) => Ok(false),
+                _ => Err(io::ErrorKind::InvalidData.into()),
+            },
+            Reply::Refused(Refusal::ModeForbids) => Ok(false),
+            _ => Err(io::ErrorKind::InvalidData.into()),
+        }
+    }
+
+    /// The station's whole life.
+    fn run(mut self) -> io::Result<()> {
+        let mut registers = self.number * 10_000..;
+        let mut register = || registers.next().expect("numbers enough");
+        let mut work = Vec::new();
+        for k in 0..ENTRIES.max(MESSAGES) {
+            if k < MESSAGES {
+                let peers = self.peers.iter().map(|&(peer, _)| peer);
+                work.extend(peers.map(|peer| Request::Send(peer, register())));
+            }
+            if k < ENTRIES {
+                work.push(Request::Enter(register()));
+            }
+        }
+        let expected = MESSAGES * self.peers.len() as u32;
+        let mut work = work.into_iter().peekable();
+        let mut finished = false;
+        let latest = Instant::now() + PATIENCE;
+        while Instant::now() < latest {
+            let mut busy = self.take_all()?;
+            if let Some(&next) = work.peek() {
+                if self.try_work(next)? {
+                    work.next();
+                    busy = true;
+                }
+            } else if !finished && self.received == expected {
+                self.ask(Request::Finished)?;
+                finished = true;
+            } else if finished && matches!(self.ask(Request::Over)?, Reply::Is(true)) {
+                return Ok(());
+            }
+            if !busy {
+                thread::sleep(Duration::from_micros(50));
+            }
+        }
+        // Another station must have failed.
+        Err(io::ErrorKind::TimedOut.into())
+    }
+}
+
+// ----- the run -----
+
+/// Runs the host and the stations, and answers the accepted records.
+fn keep_register(header: &Header) -> Result<Vec<Record>, Box<dyn Error>> {
+    let register = Arc::new(Mutex::new(Register {
+        network: Network::setup(header)?,
+        records: Vec::new(),
+        finished: 0,
+    }));
+    let mut streams: HashMap<(u32, u32), UnixStream> = HashMap::new();
+    for (i, j) in LINKS {
+        let (a, b) = UnixStream::pair()?;
+        streams.insert((i, j), a);
+        streams.insert((j, i), b);
+    }
+    let mut threads = Vec::new();
+    for number in 0..STATIONS {
+        let (host, served) = UnixStream::pair()?;
+        let peers = neighbours(number)
+            .into_iter()
+            .map(|peer| (peer, streams.remove(&(number, peer)).expect("a stream")))
+            .collect();
+        let station = Station {
+            number,
+            host,
+            peers,
+            received: 0,
+        };
+        let register = Arc::clone(&register);
+        threads.push(thread::spawn(move || serve(&register, number, served)));
+        threads.push(thread::spawn(move || station.run()));
+    }
+    for thread in threads {
+        thread.join().map_err(|_| "a thread has panicked")??;
+    }
+    let register = register.lock().map_err(|_| "a server has panicked")?;
+    assert!(register.network.rest()?);
+    Ok(register.records.clone())
+}
+
+/// Every message was sent once and received once, in one phase, and its send
+/// happened before its receipt. Answers how many there were.
+fn check_messages(records: &[Record]) -> Result<u32, Refusal> {
+    let of = |kind: Kind| {
+        records
+            .iter()
+            .filter(move |record| record.kind() == kind)
+            .map(|record| (record.register(), record))
+    };
+    let sent: HashMap<u32, &Record> = of(Kind::Sent).collect();
+    let received: HashMap<u32, &Record> = of(Kind::Received).collect();
+    assert_eq!(sent.len(), of(Kind::Sent).count());
+    assert_eq!(sent.len(), of(Kind::Received).count());
+    for (register, send) in &sent {
+        let receipt = received[register];
+        assert_eq!(send.peer(), Some(receipt.station()));
+        assert_eq!(send.phase(), receipt.phase());
+        assert_eq!(send.verdict(receipt)?, Verdict::Before);
+    }
+    Ok(sent.len() as u32)
+}
+
+/// What happened before each record, by the records' order and messages alone:
+/// no timestamp is read.
+fn happened_before(records: &[Record]) -> Vec<Vec<bool>> {
+    let mut before: Vec<Vec<bool>> = Vec::new();
+    for (k, record) in records.iter().enumerate() {
+        let mut past = vec![false; records.len()];
+        let causes = (0..k).filter(|&c| {
+            let message = record.kind() == Kind::Received
+                && records[c].kind() == Kind::Sent
+                && records[c].register() == record.register();
+            records[c].station() == record.station() || message
+        });
+        for c in causes {
+            past[c] = true;
+            for (mine, &its) in past.iter_mut().zip(&before[c]) {
+                *mine |= its;
+            }
+        }
+        before.push(past);
+    }
+    before
+}
+
+fn main() -> Result<(), Box<dyn Error>> {
+    let mut header = Header::new(STATIONS as u8, ALLOWANCE + 4 * u16::from(LIMIT));
+    for i in 0..STATIONS as usize {
+        header = header.allow(i, ALLOWANCE);
+    }
+    for (i, j) in LINKS {
+        header = header.link(i as usize, j as usize, LIMIT);
+    }
+
+    let records = keep_register(&header)?;
+    let messages = check_messages(&records)?;
+    assert_eq!(messages, 2 * LINKS.len() as u32 * MESSAGES);
+    assert_eq!(records.len() as u32, STATIONS * ENTRIES + 2 * messages);
+    let phases = 1 + records.iter().map(Record::phase).max().unwrap_or(0);
+    assert!(phases >= ENTRIES.div_ceil(u32::from(ALLOWANCE)));
+    println!(
+        "{STATIONS} stations, {} records, {messages} messages, {phases} phases",
+        records.len()
+    );
+
+    // The archive is written to a file, and read back by who knows its bytes alone.
+    let file = env::temp_dir().join(format!("melontime-register-{}", process::id()));
+    fs::write(&file, archive_bytes(&header, &records)?)?;
+    let bytes = fs::read(&file)?;
+    fs::remove_file(&file)?;
+    let archive = Archive::open(&bytes)?;
+    assert_eq!(archive.header()?, header);
+    assert!(archive.records().eq(records.iter().copied()));
+    println!("the archive has {} bytes and passes its test", bytes.len());
+
+    let mut damaged = bytes.clone();
+    damaged[700] ^= 1;
+    assert_eq!(Archive::open(&damaged).unwrap_err(), Refusal::Malformed);
+    println!("with one bit changed it is refused");
+
+    // Verdicts and lists against what happened before what.
+    let before = happened_before(&records);
+    let mut tally = HashMap::new();
+    for (a, first) in records.iter().enumerate() {
+        let mut unordered = Vec::new();
+        for (b, second) in records.iter().enumerate() {
+            let verdict = match first.verdict(second) {
+                Err(Refusal::DifferentPhases) => {
+                    assert_ne!(first.phase(), second.phase());
+                    continue;
+                }
+                other => other?,
+            };
+            let expected = match () {
+                () if a == b => Verdict::Same,
+                () if before[b][a] => Verdict::Before,
+                () if before[a][b] => Verdict::After,
+                () => Verdict::Unordered,
+            };
+            assert_eq!(verdict, expected, "{first:?} and {second:?}");
+            *tally.entry(verdict.to_string()).or_insert(0) += 1;
+            if verdict == Verdict::Unordered {
+                unordered.push(b as u64);
+            }
+        }
+        let mut list = archive.unordered(a as u64)?;
+        list.sort_unstable();
+        assert_eq!(list, unordered);
+        if a % 60 == 0 {
+            let (phase, counts) = (first.phase(), &first.counts()[..STATIONS as usize]);
+            println!(
+                "record {a}: station {}, phase {phase}, counts {counts:?}, unordered with {}",
+                first.station(),
+                list.len()
+            );
+        }
+    }
+    assert_eq!(
+        archive.found(records.len() as u64),
+        Err(Refusal::NoSuchRecord)
+    );
+    let mut tally: Vec<_> = tally.into_iter().collect();
+    tally.sort();
+    for (verdict, pairs) in tally {
+        println!("{pairs} pairs {verdict}");
+    }
+    println!("every verdict is that of the messages");
+    Ok(())
+}

@@ -1,0 +1,179 @@
+//! The two kinds of archive block.
+
+use crate::refusal::{done, refused};
+use crate::{raw, Record, Refusal, BLOCK, MAX_STATIONS, RECORD};
+
+/// The bytes of a header's fields, as the library reads them.
+const FIELDS: usize = 83;
+
+/// The fields of a header: how a network is made.
+///
+/// Any values can be put together. A block needs them in their ranges
+/// ([`Header::to_block`]); [`Network::setup`](crate::Network::setup) asks for
+/// the network rules too.
+///
+/// ```
+/// use melontime::{Header, Refusal};
+///
+/// let header = Header::new(3, 40).allow(0, 8).link(0, 1, 2).link(1, 2, 5);
+/// let block = header.to_block()?;
+/// assert_eq!(Header::read(&block)?, header);
+/// # Ok::<(), Refusal>(())
+/// ```
+#[derive(Clone, Copy, Debug, PartialEq, Eq, Hash)]
+pub struct Header {
+    /// How many stations there are, 1 to 8.
+    pub n: u8,
+    /// The ceiling of every count, 1 to 65,535.
+    pub t: u16,
+    /// Each station's own entries in a phase.
+    pub allowances: [u16; MAX_STATIONS],
+    /// `limits[i][j]` is how many messages go from i to j in a phase, 1 to 32;
+    /// 0 where there is no link.
+    pub limits: [[u8; MAX_STATIONS]; MAX_STATIONS],
+}
+
+impl Header {
+    /// A header without allowances and links.
+    pub fn new(n: u8, t: u16) -> Header {
+        Header {
+            n,
+            t,
+            allowances: [0; MAX_STATIONS],
+            limits: [[0; MAX_STATIONS]; MAX_STATIONS],
+        }
+    }
+
+    /// The header with this allowance of a station. Panics for a station above 7.
+    pub fn allow(mut self, station: usize, allowance: u16) -> Header {
+        self.allowances[station] = allowance;
+        self
+    }
+
+    /// The header with this link, of one limit both ways. Panics for a station
+    /// above 7.
+    pub fn link(mut self, station: usize, peer: usize, limit: u8) -> Header {
+        self.limits[station][peer] = limit;
+        self.limits[peer][station] = limit;
+        self
+    }
+
+    /// The header block of these fields; [`Refusal::Malformed`] where n, t or a
+    /// limit is outside its range.
+    ///
+    /// ```
+    /// use melontime::{Header, Refusal};
+    ///
+    /// assert!(Header::new(8, 1).to_block().is_ok());
+    /// assert_eq!(Header::new(9, 1).to_block(), Err(Refusal::Malformed));
+    /// ```
+    pub fn to_block(&self) -> Result<[u8; BLOCK], Refusal> {
+        let allowances = self.allowances.map(u16::to_le_bytes);
+        let mut block = [0; BLOCK];
+        let answer = raw::write_header(
+            u32::from(self.n),
+            u32::from(self.t),
+            allowances.as_flattened(),
+            self.limits.as_flattened(),
+            &mut block,
+        );
+        done("write_header", answer).map(|()| block)
+    }
+
+    /// The fields of a header block; [`Refusal::Malformed`] for other bytes.
+    ///
+    /// ```
+    /// use melontime::{Header, Refusal};
+    ///
+    /// let mut block = Header::new(1, 9).to_block()?;
+    /// assert_eq!(Header::read(&block)?.t, 9);
+    /// block[100] = 1;
+    /// assert_eq!(Header::read(&block), Err(Refusal::Malformed));
+    /// # Ok::<(), Refusal>(())
+    /// ```
+    pub fn read(block: &[u8]) -> Result<Header, Refusal> {
+        let mut fields = [0; FIELDS];
+        done("read_header", raw::read_header(block, &mut fields))?;
+        let short = |at: usize| u16::from_le_bytes([fields[at], fields[at + 1]]);
+        Ok(Header {
+            n: fields[0],
+            t: short(1),
+            allowances: std::array::from_fn(|i| short(3 + 2 * i)),
+            limits: std::array::from_fn(|i| std::array::from_fn(|j| fields[19 + 8 * i + j])),
+        })
+    }
+}
+
+/// The entries block of a number, from 1, and 1 to 15 records.
+/// [`Refusal::NoSuchRecord`] for another count of records, then
+/// [`Refusal::Malformed`] for the number 0.
+///
+/// ```
+/// use melontime::{write_entries, Header, Network, Refusal};
+///
+/// let mut network = Network::setup(&Header::new(1, 9).allow(0, 2))?;
+/// let records = [network.enter(0, 7)?, network.enter(0, 8)?];
+/// let block = write_entries(1, &records)?;
+/// assert_eq!(block.len(), 512);
+/// assert_eq!(write_entries(0, &records), Err(Refusal::Malformed));
+/// assert_eq!(write_entries(1, &[]), Err(Refusal::NoSuchRecord));
+/// # Ok::<(), Refusal>(())
+/// ```
+pub fn write_entries(number: u32, records: &[Record]) -> Result<[u8; BLOCK], Refusal> {
+    let bytes: Vec<u8> = records.iter().flat_map(Record::as_bytes).copied().collect();
+    let mut block = [0; BLOCK];
+    let answer = raw::write_entries(number, &bytes, &mut block);
+    done("write_entries", answer).map(|()| block)
+}
+
+/// An entries block that has passed its test.
+///
+/// ```
+/// use melontime::{write_entries, EntriesBlock, Header, Network, Refusal};
+///
+/// let record = Network::setup(&Header::new(1, 9).allow(0, 2))?.enter(0, 7)?;
+/// let bytes = write_entries(3, &[record])?;
+/// let block = EntriesBlock::open(&bytes)?;
+/// assert_eq!((block.number(), block.count()), (3, 1));
+/// assert_eq!(block.record(0)?, record);
+/// assert_eq!(block.record(1), Err(Refusal::NoSuchRecord));
+/// # Ok::<(), Refusal>(())
+/// ```
+#[derive(Clone, Copy, Debug)]
+pub struct EntriesBlock<'a> {
+    block: &'a [u8],
+    number: u32,
+    count: usize,
+}
+
+impl<'a> EntriesBlock<'a> {
+    /// Tests a block; [`Refusal::Malformed`] for bytes that are none.
+    pub fn open(block: &'a [u8]) -> Result<EntriesBlock<'a>, Refusal> {
+        match raw::read_entries(block) {
+            answer @ 1000.. => Ok(EntriesBlock {
+                block,
+                number: ((answer - 1000) / 16) as u32,
+                count: ((answer - 1000) % 16) as usize,
+            }),
+            other => Err(refused("read_entries", other)),
+        }
+    }
+
+    /// The block's number.
+    pub fn number(&self) -> u32 {
+        self.number
+    }
+
+    /// How many records it holds.
+    pub fn count(&self) -> usize {
+        self.count
+    }
+
+    /// Record k, from 0; [`Refusal::NoSuchRecord`] where there is none.
+    pub fn record(&self, k: usize) -> Result<Record, Refusal> {
+        let k = u32::try_from(k).map_err(|_| Refusal::NoSuchRecord)?;
+        let mut bytes = [0; RECORD];
+        let answer = raw::read_record(self.block, k, &mut bytes);
+        done("read_record", answer).map(|()| Record::written(bytes))
+    }
+}

@@ -1,0 +1,95 @@
+//! A register of events kept by up to eight stations: a Rust interface to the
+//! proved static library.
+//!
+//! Every event bears a vector timestamp of eight counts. The stations reset
+//! their counts together, from phase to phase, so that the counts stay small.
+//! Events are kept in an archive, which tells from its bytes alone which of two
+//! events of a phase came first, or that neither did.
+//!
+//! All that is decided is decided by the proved library. This crate gives its
+//! numbers and byte slices Rust types: a [`Network`] of stations with its
+//! steps, the [`Record`] of an event, the [`Verdict`] on two of them, header
+//! and entries blocks, and the [`Archive`]. A refused call is an `Err` with its
+//! [`Refusal`], and changes nothing.
+//!
+//! # A network
+//!
+//! Two stations, counts up to 7, each allowed 3 own entries in a phase, a link
+//! of limit 2 between them.
+//!
+//! ```
+//! use melontime::{Header, Mode, Network, Outcome, Refusal};
+//!
+//! let header = Header::new(2, 7).allow(0, 3).allow(1, 3).link(0, 1, 2);
+//! let mut network = Network::setup(&header)?;
+//!
+//! let own = network.enter(0, 501)?;
+//! let sent = network.send(0, 1, 502)?;
+//! let Outcome::Entry(received) = network.recv(1, 0)? else {
+//!     panic!("the link holds a message");
+//! };
+//! assert_eq!(received.register(), 502);
+//! assert_eq!(received.counts()[..2], [2, 1]);
+//! assert_eq!(network.recv(1, 0), Err(Refusal::EmptyLink));
+//!
+//! // Station 1 starts a reset: it is mute until its neighbour has answered.
+//! let muted = network.start(1)?;
+//! assert_eq!(muted, Outcome::InMode { mode: Mode::Mute, phase: 0 });
+//! assert_eq!(network.send(1, 0, 503), Err(Refusal::ModeForbids));
+//! # let _ = (own, sent);
+//! # Ok::<(), Refusal>(())
+//! ```
+//!
+//! # An archive
+//!
+//! ```
+//! # use melontime::{Header, Network, Refusal};
+//! use melontime::{archive_bytes, Archive, Verdict};
+//!
+//! # let header = Header::new(2, 7).allow(0, 3).allow(1, 3).link(0, 1, 2);
+//! # let mut network = Network::setup(&header)?;
+//! let records = [network.enter(0, 1)?, network.enter(1, 2)?, network.enter(0, 3)?];
+//! let bytes = archive_bytes(&header, &records)?;
+//!
+//! let archive = Archive::open(&bytes)?;
+//! assert_eq!(archive.len(), 3);
+//! assert_eq!(archive.unordered(1)?, [0, 2]);
+//! let (first, last) = (archive.found(0)?, archive.found(2)?);
+//! assert_eq!(first.verdict(&last)?, Verdict::Before);
+//! # Ok::<(), Refusal>(())
+//! ```
+//!
+//! The library is linked as `libhost.a` from the folder `target/staticlib` of
+//! the repository, or from the one that the environment variable
+//! `MELONTIME_LIB` names.
+
+#![deny(unsafe_code)]
+#![warn(missing_docs)]
+
+mod archive;
+mod blocks;
+mod network;
+pub mod raw;
+mod record;
+mod refusal;
+
+pub use archive::{archive_bytes, Archive, Records};
+pub use blocks::{write_entries, EntriesBlock, Header};
+pub use network::{Mode, Network, Outcome};
+pub use record::{verdict, Kind, Record, Verdict};
+pub use refusal::Refusal;
+
+/// Most stations of a network.
+pub const MAX_STATIONS: usize = 8;
+
+/// The length of a network's state in bytes.
+pub const AREA: usize = 65_536;
+
+/// The length of an archive's block in bytes.
+pub const BLOCK: usize = 512;
+
+/// The length of a record in bytes.
+pub const RECORD: usize = 32;
+
+/// Most records of an entries block.
+pub const MAX_RECORDS: usize = 15;
