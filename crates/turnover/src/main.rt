@@ -77,24 +77,32 @@ fn feed(
     t
 }
 
-// One read.
+// One read, before which all that was printed is written: whoever types a line sees its answer.
 fn turn(line: &mut [u8], block: &mut [u8], area: &mut [u8], out: &mut [u8], s: Reading) -> Reading
     requires { ⌜ (s .have ≤ 32) × (s .end ≤ 65356) × (length (now line) ≡ 32) × (length (now block) ≡ 512) × (length (now out) ≡ 65536) × Ready (s .run .stage) (now area) ⌝ }
     ensures { λ r. ⌜ (r .have ≤ 32) × (r .end ≤ 65356) × Ready (r .run .stage) (now (area .exit)) ⌝ }
 {
+    flush(&out[..], s.end);
+    let have = s.have;
+    let run = s.run;
     let mut buf = io::large_buffer();
     let got = libc::read(STDIN_FILENO, &mut buf);
     if got <= 0 {
-        let run = s.run;
         return Reading {
-            have: s.have,
-            end: s.end,
+            have,
+            end: 0,
             open: false,
             run,
         };
     }
     let n = io::count(got, &buf);
-    feed(&buf[..n], line, block, area, out, s)
+    let t = Reading {
+        have,
+        end: 0,
+        open: true,
+        run,
+    };
+    feed(&buf[..n], line, block, area, out, t)
 }
 
 // Nothing says that the input ends, so the reads are counted down from a number that no run uses up.

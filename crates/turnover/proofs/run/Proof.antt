@@ -1,17 +1,11 @@
+use Prim.Native.Nat.{_-_, _≤_}
+use mathlib.Core.Path.{_≡_, refl}
+use native.Mathlib.Omega.{arith}
+use lib.ListN.{length}
 use borrow.Author.Needs.{needs}
 use Rattle.driver.specs.Run.{Ready}
-use lib.ListN.{length}
-use mathlib.Core.Path.{_≡_, refl}
-use Prim.Native.Nat.{_-_, _≤_}
-use native.Mathlib.Omega.{arith}
 use Rattle.turnover.proofs.run.Statement.{statement}
 use Rattle.turnover.proofs.run.Tie as tie
-use Rattle.turnover.proofs.run.Reads as reads
-use Rattle.turnover.proofs.run.Lts as lts
-use Rattle.session.proofs.finish.Reads as finish-reads
-use Rattle.settings.proofs.opened.Reads as opened-reads
-use Rattle.turnover.proofs.flush.Reads as flush-reads
-use Rattle.turnover.proofs.turn.Reads as turn-reads
 
 abbrev Inv-loop : tie.InvT-loop
 Inv-loop line₀ block₀ area₀ out₀ s₀ turns₀ line block area out s turns =
@@ -20,58 +14,45 @@ Inv-loop line₀ block₀ area₀ out₀ s₀ turns₀ line block area out s tur
 abbrev μ-loop : tie.MeasureT-loop
 μ-loop line₀ block₀ area₀ out₀ s₀ turns₀ line block area out s turns = turns
 
--- src/main.rt:108:14
 opened-requires : tie.Need-opened-requires Inv-loop μ-loop
 opened-requires c κs = search needs
 
--- src/main.rt:111:5
 loop-holds : tie.Need-loop-holds Inv-loop μ-loop
 loop-holds c = let p = c .before .before .before .before .before .pre in (omega arith, omega arith, p .0, p .1, refl, p .2, rw (c .opened .ensures) tt)
 
--- src/main.rt:116:9
 turn-requires : tie.Need-turn-requires Inv-loop μ-loop
 turn-requires c κs = search needs
 
--- src/main.rt:117:9
 sub-turns : tie.Need-sub-turns Inv-loop μ-loop
 sub-turns c = search needs
 
--- src/main.rt:111:5
 loop-less : tie.Need-loop-less Inv-loop μ-loop
 loop-less c = search needs
 
--- src/main.rt:111:5
 loop-again : tie.Need-loop-again Inv-loop μ-loop
 loop-again c =
     let i = c .before .before .before .before .before .before .before .before .before .before .before .before .before .before .before .loop .inv in
     let f = c .before .before .before .before .before .before .before .before .turn .ensures in
     (f .0, f .1, omega (arith, i .2), omega (arith, i .3), omega (arith, i .4), omega (arith, i .5), f .2)
 
--- src/main.rt:120:9
 finish-requires : tie.Need-finish-requires Inv-loop μ-loop
 finish-requires c κs = search needs
 
--- src/main.rt:121:5
 flush-requires : tie.Need-flush-requires Inv-loop μ-loop
 flush-requires c κs = search needs
 
--- src/main.rt:101:1
 same-length : tie.Need-same-length Inv-loop μ-loop
 same-length c = search needs
 
--- src/main.rt:101:1
 same-length-2 : tie.Need-same-length-2 Inv-loop μ-loop
 same-length-2 c = search needs
 
--- src/main.rt:101:1
 same-length-3 : tie.Need-same-length-3 Inv-loop μ-loop
 same-length-3 c = search needs
 
--- src/main.rt:101:1
 same-length-4 : tie.Need-same-length-4 Inv-loop μ-loop
 same-length-4 c = search needs
 
--- src/main.rt:101:1
 returns : tie.Need-returns Inv-loop μ-loop
 returns c = search needs
 
