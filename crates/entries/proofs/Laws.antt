@@ -1,9 +1,9 @@
 -- An entries block: what is written is read back, what is accepted is what the writer makes, and any one byte changed is refused. Assumes nothing.
-use Prim.Native.Nat.{ℕ, zero, suc, _+_, _*_, _-_, _/_, _%_, _≤_, _<_}
+use Prim.Native.Nat.{ℕ, _+_, _*_, _-_, _/_, _%_, _≤_, _<_}
 use mathlib.Core.Path.{_≡_, refl, _∙_, sym, ap}
 use mathlib.Core.Logic.{_≢_}
 use mathlib.Core.List.{List, [], _∷_, _++_}
-use mathlib.Core.Bool.{Bool, true, false, _&&_}
+use mathlib.Core.Bool.{true, false}
 use native.Mathlib.Omega.{arith}
 use lib.Dec.{eqb, leb}
 use lib.ListN.{length, getD, take, drop, set, length-append, length-set, length-take, length-drop}
@@ -12,10 +12,10 @@ use Rattle.codec.specs.Num.{AreBytes, bytesOf, numAt}
 use Rattle.codec.specs.Every.{every, allZero, blank}
 use Rattle.codec.specs.Check.{sealed, sealOf}
 use Rattle.codec.proofs.BlankLaws.{blank-length}
-use Rattle.codec.proofs.EveryLaws.{both, join, every-at, every-same, zero-part, zeros-blank}
+use Rattle.codec.proofs.EveryLaws.{both, every-at, every-same, zero-part, zeros-blank}
 use Rattle.codec.proofs.SpliceLaws.{part-part}
 use Rattle.codec.proofs.Fronts.{front-part, front-num, front-byte, front-none}
-use Rattle.codec.proofs.Has.{Has, has-last, has-more, has-num, has-byte, has-part, has-at}
+use Rattle.codec.proofs.Has.{Has, has-last, has-more, has-num, has-part}
 use Rattle.codec.proofs.CheckLaws.{seal-length, seal-seals, sealed-is}
 use Rattle.codec.proofs.OneByte.{one-byte}
 use Rattle.record.specs.Record.{wellMadeRecord}

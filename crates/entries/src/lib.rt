@@ -13,30 +13,12 @@ pub enum EntriesRead {
     Refused(u8),
 }
 
-// Where the records start.
-const STARTS: [usize; 15] = [
-    16,
-    48,
-    80,
-    112,
-    144,
-    176,
-    208,
-    240,
-    272,
-    304,
-    336,
-    368,
-    400,
-    432,
-    464,
-];
-
+// Where record k starts, in the table of starts, which go up by 32.
 pub fn start_of(k: usize) -> usize
     requires { ⌜ k < 15 ⌝ }
     ensures { λ r. ⌜ r ≡ recordStart k ⌝ }
 {
-    STARTS[k]
+    16 + k * 32
 }
 
 // The first `count` records of 32 bytes each are well made.

@@ -1,10 +1,8 @@
-use Prim.Native.Nat.{ℕ, _+_, _*_, _-_, _/_, _%_, _≤_, _<_}
-use mathlib.Core.Path.{_≡_, refl, _∙_, sym, ap}
+use Prim.Native.Nat.{_+_, _-_}
+use mathlib.Core.Path.{_≡_, refl, _∙_, sym}
 use native.Mathlib.Omega.{arith}
-use borrow.Author.Tests.{not-true, not-false, lt-ltb, le-ltb, eq-eqb, ne-eqb}
+use borrow.Author.Tests.{not-true, not-false, lt-ltb, le-ltb}
 use denote.Ref.{now}
-use mathlib.Core.List.{List}
-use Rattle.codec.specs.Splice.{splice}
 use Rattle.entries.specs.Entries.{recordOf, readRecord}
 use Rattle.entries.proofs.Laws.{start-is, well-made-length, well-made-count}
 use borrow.Author.Needs.{needs}

@@ -1,7 +1,6 @@
 use native.Mathlib.Omega.{arith}
 use mathlib.Core.List.{[], _∷_}
 use denote.Ref.{now}
-use lib.ListN.{length-set}
 use Rattle.codec.proofs.Stores.{stored}
 use borrow.Author.Needs.{needs}
 use Rattle.entries.proofs.store_front.Statement.{statement}
