@@ -1,8 +1,8 @@
 -- A whole archive (document 01, "Archive blocks"): a header and then entries blocks, perhaps none. Assumes nothing.
 use Prim.Native.Nat.{ℕ, _+_, _*_, _-_, _/_, _%_}
 use mathlib.Core.List.{List, []}
-use mathlib.Core.Bool.{Bool, true, false, not, _&&_, _||_, cond}
-use lib.Dec.{eqb, leb, ltb}
+use mathlib.Core.Bool.{Bool, _&&_, _||_, cond}
+use lib.Dec.{eqb, ltb}
 use lib.ListN.{length, getD, take, drop}
 use Rattle.codec.specs.Every.{every}
 use Rattle.clock.specs.Range.{countsFit}

@@ -1,8 +1,8 @@
 -- The test of an area holds exactly of the images of well-formed states, and an image determines its state. Assumes nothing.
-use Prim.Native.Nat.{ℕ, zero, suc, _+_, _*_, _/_, _%_, _≤_, _<_}
-use mathlib.Core.Path.{_≡_, refl, _∙_, sym, ap}
-use mathlib.Core.List.{List, [], _∷_, _++_}
-use mathlib.Core.Bool.{Bool, true, _&&_}
+use Prim.Native.Nat.{ℕ, _+_, _*_, _/_, _%_, _<_}
+use mathlib.Core.Path.{_≡_, _∙_, sym, ap}
+use mathlib.Core.List.{List, []}
+use mathlib.Core.Bool.{true}
 use native.Mathlib.Omega.{arith}
 use lib.Dec.{eqb}
 use lib.ListN.{length, take, drop, getD, length-take, length-drop, take-append-drop}
@@ -18,15 +18,15 @@ use Rattle.header.specs.Header.{imageHeader, wellMadeHeader}
 use Rattle.header.proofs.Laws as header
 use Rattle.reset.specs.Config.{Config, wellMade, networkRules}
 use Rattle.reset.specs.Clock.{vector}
-use Rattle.reset.specs.State.{Station, State, blankStation, stationAt, linkAt}
+use Rattle.reset.specs.State.{State, blankStation, stationAt, linkAt}
 use Rattle.reset.specs.WellFormed.{shapeFits, rowLong, stationFits, linkFits, wellFormed}
 use Rattle.reset.specs.Formed.{Formed, formed-of, formed-back}
 use Rattle.rules.specs.Setup.{blockConfig, headerOf}
 use Rattle.rules.proofs.Laws.{accepted-well-made, block-back, well-made-accepted}
-use Rattle.station.specs.Image.{imageStation, parseStation, Ranged}
+use Rattle.station.specs.Image.{imageStation, parseStation}
 use Rattle.station.specs.Test.{stationBytesFit, stationTest}
 use Rattle.station.proofs.Laws as station
-use Rattle.link.specs.Image.{Queue, imageLink, parseLink, linkTest, RangedLink}
+use Rattle.link.specs.Image.{Queue, imageLink, parseLink, linkTest}
 use Rattle.link.proofs.Laws as link
 use Rattle.area.specs.Layout.{linkNumber, image, stationBytes, linkBytes, configAt, stateAt, stationTestAt, stationsTest, linkTestAt, linksTest, partsTest, test, Imaged}
 use Rattle.area.proofs.Parts.{image-length, read-header, read-station, read-link, read-rest}

@@ -1,11 +1,11 @@
 -- The parts of an image: where they stand, and what replacing one does. Assumes nothing.
-use Prim.Native.Nat.{ℕ, zero, suc, _+_, _*_, _/_, _%_, _≤_, _<_}
+use Prim.Native.Nat.{ℕ, _+_, _*_, _/_, _%_, _<_}
 use mathlib.Core.Path.{_≡_, refl, _∙_, sym, ap}
 use mathlib.Core.Logic.{_≢_}
-use mathlib.Core.List.{List, [], _∷_, _++_, append-assoc}
+use mathlib.Core.List.{List, [], _++_, append-assoc}
 use native.Mathlib.Omega.{arith}
 use native.Mathlib.Decide.{ℕ-discrete}
-use lib.ListN.{length, take, drop, getD, set, length-append}
+use lib.ListN.{length, take, drop, set, length-append}
 use lib.Seq.{take-at, drop-at}
 use Rattle.codec.specs.Rows.{rows, upto}
 use Rattle.codec.specs.Splice.{splice}
@@ -16,7 +16,7 @@ use Rattle.header.specs.Header.{imageHeader}
 use Rattle.header.proofs.Laws as header
 use Rattle.reset.specs.Config.{Config}
 use Rattle.reset.specs.Clock.{vector}
-use Rattle.reset.specs.State.{Station, Item, State, blankStation, stationAt, linkAt, setStation, setLink}
+use Rattle.reset.specs.State.{Station, State, blankStation, stationAt, setStation, setLink}
 use Rattle.reset.specs.Views.{station-set, station-set-other, link-set-station, station-set-link, link-set, link-set-row, link-set-col}
 use Rattle.rules.specs.Setup.{headerOf}
 use Rattle.station.specs.Image.{imageStation}

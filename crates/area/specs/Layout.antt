@@ -2,7 +2,7 @@
 -- from i to j being number i * 8 + j, and zeros from 46,648 on. Assumes nothing.
 use Prim.Native.Nat.{ℕ, _+_, _*_, _/_, _%_, _<_}
 use mathlib.Core.Path.{_≡_}
-use mathlib.Core.List.{List, [], _++_}
+use mathlib.Core.List.{List, _++_}
 use mathlib.Core.Bool.{Bool, true, _&&_}
 use lib.Dec.{eqb}
 use lib.ListN.{length, take, drop}
@@ -11,7 +11,7 @@ use Rattle.codec.specs.Every.{every, allZero, blank}
 use Rattle.header.specs.Header.{imageHeader, wellMadeHeader}
 use Rattle.reset.specs.Config.{Config, wellMade, networkRules}
 use Rattle.reset.specs.Clock.{vector}
-use Rattle.reset.specs.State.{Station, Item, State, stationAt, linkAt}
+use Rattle.reset.specs.State.{State, stationAt, linkAt}
 use Rattle.reset.specs.WellFormed.{shapeFits}
 use Rattle.rules.specs.Setup.{blockConfig, headerOf}
 use Rattle.station.specs.Image.{imageStation, parseStation, Ranged}

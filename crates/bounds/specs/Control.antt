@@ -1,24 +1,22 @@
 -- When a control item taken, or a start, meets number 9, from a state in bounds: the phase is past its last, or a link out has no room. Assumes nothing.
-use Prim.Native.Nat.{ℕ, zero, suc, _+_, _≤_, _<_}
+use Prim.Native.Nat.{ℕ, _+_, _≤_, _<_}
 use mathlib.Core.Path.{_≡_, refl, sym, _∙_, ap}
 use mathlib.Core.Logic.{_≢_}
 use mathlib.Core.Bool.{Bool, true, false, not, _&&_, _||_}
 use mathlib.Core.List.{List, [], _∷_, _++_, append-assoc, append-nil}
 use native.Mathlib.Omega.{arith}
-use native.Mathlib.Decide.{ℕ-discrete}
 use lib.Dec.{leb}
 use lib.ListN.{getD, length, length-append}
-use borrow.Author.Tests.{leb-true, le-leb}
+use borrow.Author.Tests.{le-leb}
 use Rattle.codec.specs.Every.{every}
-use Rattle.codec.proofs.EveryLaws.{both, join, every-at, every-of}
-use Rattle.clock.specs.Timestamp.{zeros}
+use Rattle.codec.proofs.EveryLaws.{every-at, every-of}
 use Rattle.reset.specs.Config.{Config, neighbours, places}
 use Rattle.reset.specs.Clock.{Clock, vector}
-use Rattle.reset.specs.State.{Item, Station, State, stationAt, linkAt, setStation, setLink, putOnAll}
-use Rattle.reset.specs.Steps.{Rule, ruleA, ruleB, ruleC, noRule, ruleOf, begun, phaseBounded, countBounded, linkBounded, inBounds}
+use Rattle.reset.specs.State.{Item, Station, State, stationAt, linkAt, setStation, putOnAll}
+use Rattle.reset.specs.Steps.{Rule, ruleA, ruleB, ruleC, noRule, ruleOf, countBounded, linkBounded, inBounds}
 use Rattle.reset.specs.TurnLaws.{applied}
 use Rattle.reset.specs.Views.{zeros-at, station-set, station-set-other, link-set-station, station-put-all, link-put-all, link-put-all-far, link-put-all-row}
-use Rattle.turning.specs.Turn.{Turning, turnedBy, turnedOnce, turnedAll, turned, started, putItems}
+use Rattle.turning.specs.Turn.{Turning, turnedOnce, turnedAll, turned, started, putItems}
 use Rattle.bounds.specs.Local.{localBounds, Bounds, bool-iff, local}
 
 -- every link out of i has room for k items more

@@ -1,8 +1,8 @@
 -- When an entry meets number 9, from a state in bounds: the own count is at the ceiling or, for a send, the link is full. Assumes nothing.
-use Prim.Native.Nat.{ℕ, zero, suc, max, _+_, _≤_, _<_}
-use mathlib.Core.Path.{_≡_, refl, sym, _∙_, ap}
+use Prim.Native.Nat.{ℕ, zero, suc, _+_, _≤_, _<_}
+use mathlib.Core.Path.{_≡_, sym, _∙_}
 use mathlib.Core.Logic.{_≢_}
-use mathlib.Core.Bool.{Bool, true, false, _&&_}
+use mathlib.Core.Bool.{true, _&&_}
 use mathlib.Core.List.{List, [], _∷_, _++_}
 use native.Mathlib.Omega.{arith}
 use native.Mathlib.Decide.{ℕ-discrete}
@@ -10,13 +10,12 @@ use lib.Dec.{leb}
 use lib.ListN.{getD, length, length-append}
 use borrow.Author.Tests.{leb-true, le-leb}
 use Rattle.codec.specs.Every.{every}
-use Rattle.codec.specs.Put.{put}
 use Rattle.codec.proofs.EveryLaws.{both, join, every-at, every-of}
 use Rattle.codec.proofs.PutLaws.{put-same, put-other}
 use Rattle.clock.specs.Timestamp.{tick, merged, raised}
 use Rattle.reset.specs.Config.{Config, places}
 use Rattle.reset.specs.Clock.{vector}
-use Rattle.reset.specs.State.{Item, message, Station, State, stationAt, linkAt, setStation, setLink, putOn}
+use Rattle.reset.specs.State.{Item, message, Station, State, stationAt, linkAt, setStation, setLink}
 use Rattle.reset.specs.Steps.{phaseBounded, countBounded, linkBounded, inBounds, entered, sending, receiving, doEnter, doSend, doReceive}
 use Rattle.reset.specs.Views.{station-set, station-set-other, link-set-station, station-set-link, link-set, link-set-row, link-set-col}
 use Rattle.bounds.specs.Local.{localBounds, Bounds, bool-iff, local}

@@ -1,18 +1,16 @@
 -- A well-formed state is in bounds. Assumes nothing.
 use Prim.Native.Nat.{ℕ, _≤_, _<_}
-use mathlib.Core.Path.{_≡_, refl}
+use mathlib.Core.Path.{_≡_}
 use mathlib.Core.List.{List}
-use mathlib.Core.Bool.{Bool, true, false, cond, _&&_}
+use mathlib.Core.Bool.{Bool, true, false, cond}
 use native.Mathlib.Omega.{arith}
 use lib.Dec.{eqb, leb}
 use lib.ListN.{getD, length}
 use borrow.Author.Tests.{leb-true, le-leb}
-use Rattle.codec.specs.Every.{every}
 use Rattle.codec.proofs.EveryLaws.{both, every-at}
 use Rattle.reset.specs.Config.{Config, isStation, places}
 use Rattle.reset.specs.Clock.{vector}
 use Rattle.reset.specs.State.{Station, State, stationAt, linkAt}
-use Rattle.reset.specs.Steps.{phaseBounded, countBounded, linkBounded}
 use Rattle.reset.specs.WellFormed.{ofStation, countFits, countsFit, modeFits, phaseFits, stationFits, linkFits, wellFormed}
 use Rattle.reset.specs.Formed.{formed-of}
 use Rattle.bounds.specs.Local.{Bounds}

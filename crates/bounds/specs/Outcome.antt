@@ -1,23 +1,23 @@
 -- The outcome of each step from a well-formed state, by the tests that decide it: what a step over lent bytes has to look at. Assumes nothing.
-use Prim.Native.Nat.{ℕ, zero, suc, _+_, _≤_, _<_}
+use Prim.Native.Nat.{ℕ, suc, _≤_, _<_}
 use mathlib.Core.Path.{_≡_, refl, sym, _∙_, ap}
 use mathlib.Core.Logic.{_≢_}
 use mathlib.Core.Bool.{Bool, true, false, not, _&&_}
-use mathlib.Core.List.{List, [], _∷_, _++_}
+use mathlib.Core.List.{List, [], _∷_}
 use native.Mathlib.Omega.{arith}
 use native.Mathlib.Decide.{ℕ-discrete}
-use lib.Dec.{leb, ltb}
+use lib.Dec.{leb}
 use lib.ListN.{getD, length}
-use borrow.Author.Tests.{le-leb, lt-leb, leb-true, ltb-true}
+use borrow.Author.Tests.{le-leb, lt-leb, ltb-true}
 use Rattle.codec.specs.Every.{every}
 use Rattle.codec.proofs.EveryLaws.{both, every-at}
 use Rattle.reset.specs.Config.{Config, isStation, neighbours, limitAt, allowanceAt, places, wellMade}
 use Rattle.reset.specs.ConfigLaws.{Rules, rules}
 use Rattle.reset.specs.Clock.{vector}
-use Rattle.reset.specs.State.{Mode, Item, message, resetReq, resetDone, Station, State, stationAt, linkAt, doneSeen, sentTo, setStation, setLink}
-use Rattle.reset.specs.Steps.{Step, enter, send, recv, start, Answer, refused, entry, modeAfter, Outcome, refuse, guard, inBounds, bounded, doEnter, doSend, doReceive, doMark, doStart, settle, withReq, withDone, maySend, isNormal, beginReset, turn, receive, step}
-use Rattle.reset.specs.Views.{station-set, station-set-link, link-set, link-set-row, link-set-col, link-set-station}
-use Rattle.reset.specs.WellFormed.{countsFit, registerFits, itemFits, itemFitsAt, linkFits, wellFormed}
+use Rattle.reset.specs.State.{Item, message, Station, State, stationAt, linkAt, doneSeen, sentTo, setStation, setLink}
+use Rattle.reset.specs.Steps.{enter, send, recv, start, modeAfter, Outcome, refuse, guard, inBounds, bounded, doEnter, doSend, doReceive, doMark, doStart, settle, maySend, isNormal, beginReset, turn, receive, step}
+use Rattle.reset.specs.Views.{station-set, station-set-link, link-set, link-set-row, link-set-col}
+use Rattle.reset.specs.WellFormed.{countsFit, itemFits, itemFitsAt, linkFits, wellFormed}
 use Rattle.reset.specs.Formed.{Formed, formed-of}
 use Rattle.turning.specs.Turn.{Turning, turned, started, putItems}
 use Rattle.turning.proofs.TurnLaws.{set-link-set, turn-set, start-set}

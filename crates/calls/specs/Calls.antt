@@ -1,14 +1,13 @@
 -- What the calls on a state area answer and leave (document 01, "State area and host"): setup, the four steps, rest. Assumes nothing.
 use Prim.Native.Nat.{ℕ}
 use mathlib.Core.List.{List}
-use mathlib.Core.Bool.{Bool, true, false, cond}
+use mathlib.Core.Bool.{cond}
 use lib.Dec.{eqb}
 use lib.ListN.{length}
 use Rattle.codec.specs.Written.{Written, refused as refusedWith, wrote}
 use Rattle.header.specs.Header.{wellMadeHeader}
 use Rattle.reset.specs.Config.{Config, networkRules}
 use Rattle.reset.specs.Clock.{vector}
-use Rattle.reset.specs.State.{State}
 use Rattle.reset.specs.Steps.{Step, Answer, refused, Outcome, step}
 use Rattle.reset.specs.Network.{initial, quiescent}
 use Rattle.rules.specs.Setup.{blockConfig}

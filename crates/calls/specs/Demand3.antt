@@ -1,30 +1,27 @@
 -- Demand 3 over areas, from demand 3 of the network: a run over areas is the image of a run over states. Assumes nothing.
 use Prim.Native.Nat.{ℕ}
-use mathlib.Core.Path.{_≡_, refl, sym, _∙_, ap}
+use mathlib.Core.Path.{_≡_, refl, ap}
 use mathlib.Core.List.{List, [], _∷_}
 use mathlib.Core.Bool.{Bool, true, false, cond}
 use native.Mathlib.Omega.{arith}
 use lib.Dec.{eqb}
 use lib.ListN.{length}
-use Rattle.codec.specs.Num.{AreBytes}
 use Rattle.codec.specs.Written.{Written}
-use Rattle.codec.proofs.EveryLaws.{both}
 use Rattle.header.specs.Header.{wellMadeHeader}
-use Rattle.reset.specs.Config.{Config, networkRules, wellMade}
+use Rattle.reset.specs.Config.{Config, networkRules}
 use Rattle.reset.specs.Clock.{vector}
 use Rattle.reset.specs.State.{State}
-use Rattle.reset.specs.Steps.{Step, Outcome, step}
+use Rattle.reset.specs.Steps.{Step, step}
 use Rattle.reset.specs.Network.{initial, Answered, log, run}
-use Rattle.reset.specs.WellFormed.{wellFormed, stepFits}
+use Rattle.reset.specs.WellFormed.{wellFormed}
 use Rattle.reset.specs.Formed.{StepsFit, initial-well-formed, step-well-formed}
 use Rattle.rules.specs.Setup.{blockConfig}
 use Rattle.rules.proofs.Laws.{accepted-well-made}
-use Rattle.causality.specs.Plain.{Message}
-use Rattle.causality.specs.Sound.{taken, withTaken, takens, SoundLog}
+use Rattle.causality.specs.Sound.{taken, withTaken, takens}
 use Rattle.causality.specs.Demand3.{demand3}
-use Rattle.area.specs.Layout.{image, configAt, stateAt, test}
+use Rattle.area.specs.Layout.{image}
 use Rattle.area.proofs.Formed.{imaged as images, config-back, state-back, image-passes}
-use Rattle.calls.specs.Calls.{setupOn, AreaStep, imaged, stepOn}
+use Rattle.calls.specs.Calls.{setupOn, imaged, stepOn}
 use Rattle.calls.specs.Sound.{logOn, runOn, takensOn, Demand3}
 
 -- a step on the image of a well-formed state is the image of the network's step

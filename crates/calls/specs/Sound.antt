@@ -2,7 +2,6 @@
 use Prim.Native.Nat.{ℕ}
 use mathlib.Core.Path.{_≡_}
 use mathlib.Core.List.{List, [], _∷_}
-use mathlib.Core.Bool.{true}
 use Rattle.codec.specs.Num.{AreBytes}
 use Rattle.reset.specs.Steps.{Step}
 use Rattle.reset.specs.Network.{Answered}

@@ -8,7 +8,7 @@ use native.Mathlib.Omega.{arith}
 use lib.Dec.{eqb, leb, ltb}
 use lib.ListN.{length, getD}
 use borrow.Author.Tests.{eqb-true, eqb-false, leb-true, le-leb, ltb-true, lt-ltb, ne-eqb, not-true}
-use Rattle.codec.proofs.NumLaws.{Below}
+use Rattle.codec.proofs.NumLaws.{below-of}
 use Rattle.codec.proofs.EveryLaws.{both, every-at, every-of}
 use Rattle.codec.proofs.PutLaws.{put-same}
 use Rattle.clock.specs.Timestamp.{merged}
@@ -19,21 +19,16 @@ use Rattle.reset.specs.Reach.{limit, linked}
 use Rattle.reset.specs.Config.{Config, isStation, neighbours, places, wellMade}
 use Rattle.reset.specs.ConfigLaws.{Rules, rules, shape}
 use Rattle.reset.specs.Clock.{vector}
-use Rattle.reset.specs.State.{Mode, Item, message, Station, State, stationAt}
+use Rattle.reset.specs.State.{Item, message, Station, State, stationAt}
 use Rattle.reset.specs.Steps.{Step, Entry, Answer, refused, entry, modeAfter, Outcome, entered, entryOf, sending, receiving, step}
 use Rattle.reset.specs.Network.{initial, log}
 use Rattle.reset.specs.WellFormed.{registerFits, ofStation, countFits, countsFit, modeFits, phaseFits, stationFits, itemFitsAt, linkFits, wellFormed, stepFits}
 use Rattle.reset.specs.Views.{station-set, station-set-link}
-use Rattle.reset.specs.StepLaws.{of-step}
+use Rattle.reset.specs.StepLaws.{of-step, refused-entry, mode-entry}
 use Rattle.reset.specs.Formed.{Formed, formed-of, StepsFit, initial-well-formed, step-well-formed}
 use Rattle.causality.specs.HappenedBefore.{Accepted, withEntry, accepted, entryAt}
 use Rattle.stepped.specs.Answers.{recordOf}
 use Rattle.chronicle.specs.Claims.{InRange, AllInRange}
-
--- numbers below a bound, by index
-below-of : (b : ℕ) (l : List ℕ) → ((i : ℕ) → i < length l → getD l i 0 < b) → Below b l
-below-of b [] h = tt
-below-of b (x ∷ l) h = (h 0 (omega arith), below-of b l (λ (i : ℕ) (g : i < length l). h (suc i) (omega arith)))
 
 -- ---- from the tests of a well-formed state
 module _ (c : Config) where
@@ -159,12 +154,6 @@ module _ (c : Config) (w : wellMade c ≡ true) (u : Rules c) where
   -- ---- a step from a well-formed state
   of-entry : (e e′ : Entry) → InRange c e → entry e ≡ entry e′ → InRange c e′
   of-entry e e′ r h = let q : e ≡ e′ = cc in rw (← q) r
-
-  refused-entry : {A : Type 0} (k : ℕ) (e : Entry) → refused k ≡ entry e → A
-  refused-entry k e h = let z : _≡_ {A = ℕ} 0 1 = cc in absurd (omega arith)
-
-  mode-entry : {A : Type 0} (i : ℕ) (m : Mode) (p : ℕ) (e : Entry) → modeAfter i m p ≡ entry e → A
-  mode-entry i m p e h = let z : _≡_ {A = ℕ} 0 1 = cc in absurd (omega arith)
 
   abbrev Ranged : Step → Outcome vector → Type 0
   Ranged p o = Formed c (o .after) → stepFits p ≡ true → (e : Entry) → o .answer ≡ entry e → InRange c e

@@ -69,6 +69,16 @@ abbrev pub Below : ℕ → List ℕ → Type 0
 Below m [] = Unit
 Below m (x ∷ l) = (x < m) × Below m l
 
+-- by the place
+pub below-of : (m : ℕ) (l : List ℕ) → ((i : ℕ) → i < length l → getD l i 0 < m) → Below m l
+below-of m [] h = tt
+below-of m (x ∷ l) h = (h 0 (omega arith), below-of m l (λ (i : ℕ) (g : i < length l). h (suc i) (omega arith)))
+
+pub of-below : (m : ℕ) (l : List ℕ) → 0 < m → Below m l → (i : ℕ) → getD l i 0 < m
+of-below m [] z h i = z
+of-below m (x ∷ l) z h zero = h .0
+of-below m (x ∷ l) z h (suc i) = of-below m l z (h .1) i
+
 pub nums-back : (k : ℕ) (c : List ℕ) (n : ℕ) (p q : List ℕ) → length p ≡ n → Below (256 ^ k) c → numsAt k (length c) (p ++ (numsOf k (length c) c ++ q)) n ≡ c
 nums-back k [] n p q e h = refl
 nums-back k (x ∷ c) n p q e h =

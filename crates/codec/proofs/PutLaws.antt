@@ -1,6 +1,6 @@
 -- Laws of `put`. Assumes nothing.
 use Prim.Native.Nat.{ℕ, zero, suc, max, _<_}
-use mathlib.Core.Path.{_≡_, refl, _∙_, ap}
+use mathlib.Core.Path.{_≡_, refl, ap}
 use mathlib.Core.List.{List, [], _∷_}
 use native.Mathlib.Omega.{arith}
 use lib.ListN.{length, getD, set}

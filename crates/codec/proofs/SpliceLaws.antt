@@ -1,12 +1,12 @@
 -- Laws of splices. Assumes nothing.
 use Prim.Native.Nat.{ℕ, zero, suc, _+_, _-_, _≤_, _<_}
-use mathlib.Core.Path.{_≡_, refl, _∙_, sym, ap}
+use mathlib.Core.Path.{_≡_, refl, _∙_}
 use mathlib.Core.List.{List, [], _∷_, _++_, append-assoc, append-nil}
 use native.Mathlib.Omega.{arith}
 use native.Mathlib.Numerals.{add-one}
 use native.Mathlib.Nat.{add-assoc, add-zero, sub-zero, zero-sub, suc-sub-suc}
 use lib.ListN.{length, take, drop, set, length-append, length-take, length-drop, take-append-drop, drop-of-length-le}
-use lib.Seq.{set-split, take-at, drop-at, drop-drop, drop-append-add, length-take-le, take-take, take-nil}
+use lib.Seq.{set-split, take-at, drop-drop, drop-append-add, take-take, take-nil}
 use Rattle.codec.specs.Splice.{splice}
 
 -- what lies past the seam

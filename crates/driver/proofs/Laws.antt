@@ -3,21 +3,19 @@ use Prim.Native.Nat.{ℕ}
 use mathlib.Core.Path.{_≡_, refl, sym, _∙_, ap, subst}
 use mathlib.Core.List.{List}
 use mathlib.Core.Bool.{Bool, true, false, cond}
-use native.Mathlib.Omega.{arith}
 use lib.Dec.{eqb}
-use borrow.Author.Tests.{eqb-true, eqb-false}
+use borrow.Author.Tests.{eqb-false}
 use Rattle.codec.specs.Num.{AreBytes}
 use Rattle.codec.specs.Written.{Written}
-use Rattle.reset.specs.Config.{Config}
 use Rattle.reset.specs.Clock.{vector}
 use Rattle.reset.specs.State.{normal, mute, standBy}
-use Rattle.reset.specs.Steps.{Step, Answer, refused, entry, modeAfter, step}
+use Rattle.reset.specs.Steps.{Step, Answer, refused, entry, modeAfter}
 use Rattle.reset.specs.Network.{initial}
 use Rattle.reset.specs.WellFormed.{stepFits}
 use Rattle.reset.specs.Formed.{initial-well-formed, step-well-formed}
 use Rattle.rules.specs.Setup.{blockConfig}
 use Rattle.rules.proofs.Laws.{accepted-well-made}
-use Rattle.area.specs.Layout.{image, configAt, stateAt, test}
+use Rattle.area.specs.Layout.{configAt, stateAt, test}
 use Rattle.area.proofs.Formed.{formed-fits, image-passes}
 use Rattle.calls.specs.Calls.{setupOn, stepOn}
 use Rattle.calls.specs.Demand3.{accepted}

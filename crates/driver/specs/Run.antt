@@ -1,14 +1,14 @@
 -- A run of turnover, command by command: what is printed, and where the run then stands (document 01, "turnover"). Assumes nothing.
-use Prim.Native.Nat.{ℕ, suc, _+_, _≤_}
+use Prim.Native.Nat.{ℕ, _+_, _≤_}
 use mathlib.Core.Path.{_≡_}
-use mathlib.Core.List.{List, [], _∷_, _++_}
+use mathlib.Core.List.{List, []}
 use mathlib.Core.Bool.{Bool, true, false, cond}
 use lib.Dec.{eqb}
 use Rattle.text.specs.Written.{Written}
 use Rattle.answer.specs.Answer.{entryText, modeText, refusedText, setupText, badText, longest}
 use Rattle.command.specs.declared.Command.{Command}
 use Rattle.command.specs.declared.Command.the-variants.{Net, Allow, Link, Enter, Send, Recv, Start, Bad}
-use Rattle.reset.specs.Steps.{Step, enter, send, recv, start, Answer, refused, entry, modeAfter}
+use Rattle.reset.specs.Steps.{enter, send, recv, start, Answer, refused, entry, modeAfter}
 use Rattle.station.specs.Image.{modeByte}
 use Rattle.area.specs.Layout.{test}
 use Rattle.calls.specs.Calls.{AreaStep, stepOn}
@@ -20,7 +20,7 @@ use Rattle.settings.specs.declared.Run.{Run}
 use Rattle.driver.specs.declared.Told.{Told}
 use Rattle.settings.specs.declared.Stage.{Stage}
 use Rattle.settings.specs.declared.Stage.the-variants.{Opening, Setting, Stepping, Ended}
-use Rattle.settings.specs.Settings.{openedRun, namedRun, stagedRun, numberedRun, allowedRun, linkSet, blockOf, setUp}
+use Rattle.settings.specs.Settings.{namedRun, stagedRun, numberedRun, allowedRun, linkSet, blockOf, setUp}
 
 -- where a run stands: its stage and settings, the header block in the making, where the limits stand, and the state area
 pub record Standing : Type 0 where

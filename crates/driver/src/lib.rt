@@ -7,7 +7,7 @@ use stepped::Stepped;
 ghost use mathlib.Core.Path.{_≡_};
 ghost use mathlib.Core.Bool.{true};
 ghost use mathlib.Core.List.{List};
-ghost use Prim.Native.Nat.{ℕ, _+_, _≤_, _<_};
+ghost use Prim.Native.Nat.{ℕ, _+_, _≤_};
 ghost use lib.ListN.{length};
 ghost use Rattle.answer.specs.Answer.{setupText, longest};
 ghost use Rattle.text.specs.Written.{Written};
@@ -16,7 +16,7 @@ ghost use Rattle.calls.specs.Calls.{AreaStep};
 ghost use Rattle.stepped.specs.Answers.{steppedOf};
 ghost use Rattle.settings.specs.declared.Stage.the-variants.{Ended};
 ghost use Rattle.settings.specs.Settings.{stagedRun};
-ghost use Rattle.driver.specs.Run.{standing, silent, badLine, codeText, stepMade, stepping as Stepping, withSetup, setUpIn, first as First, opening as Opening, setting as Setting, obeyed, closed, isEnded, Tells, Ready};
+ghost use Rattle.driver.specs.Run.{standing, badLine, codeText, stepMade, stepping as Stepping, first as First, opening as Opening, setting as Setting, obeyed, closed, isEnded, Tells, Ready};
 
 // The run after a command, and the place behind what was printed.
 pub struct Told {

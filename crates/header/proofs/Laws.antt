@@ -1,28 +1,27 @@
 -- A header block: what is written is read back, what is accepted is what the writer makes, and any one byte changed is refused. Assumes nothing.
-use Prim.Native.Nat.{ℕ, zero, suc, _+_, _*_, _/_, _%_, _≤_, _<_}
+use Prim.Native.Nat.{ℕ, zero, suc, _+_, _*_, _/_, _%_, _<_, _≤_}
 use mathlib.Core.Path.{_≡_, refl, _∙_, sym, ap}
 use mathlib.Core.Logic.{_≢_}
 use mathlib.Core.List.{List, [], _∷_, _++_}
-use mathlib.Core.Bool.{Bool, true, false, _&&_}
+use mathlib.Core.Bool.{true, false}
 use native.Mathlib.Omega.{arith}
 use native.Mathlib.Nat.{add-zero}
-use lib.Dec.{eqb}
+use lib.Dec.{eqb, leb}
 use lib.ListN.{length, getD, take, drop, set, length-append, length-set, length-take, length-drop}
-use lib.Seq.{take-at, getD-take, getD-drop, ext-getD}
-use borrow.Author.Tests.{eqb-true, eq-eqb}
-use Rattle.codec.specs.Num.{AreBytes, bytesOf, numAt, numsOf, numsAt}
-use Rattle.codec.specs.Rows.{upto}
-use Rattle.codec.specs.Every.{every, allZero, blank}
+use lib.Seq.{getD-take, getD-drop, ext-getD}
+use borrow.Author.Tests.{eqb-true, eq-eqb, leb-true}
+use Rattle.codec.specs.Num.{AreBytes, bytesOf, numsOf}
+use Rattle.codec.specs.Every.{allZero, blank}
 use Rattle.codec.specs.Check.{sealed, sealOf}
 use Rattle.codec.proofs.NumLaws.{nums-length, Below}
 use Rattle.codec.proofs.BlankLaws.{blank-length}
-use Rattle.codec.proofs.EveryLaws.{both, join, zero-part, zeros-blank}
+use Rattle.codec.proofs.EveryLaws.{both, zero-part, zeros-blank}
 use Rattle.codec.proofs.Stride.{upto-length, upto-at, upto-is}
 use Rattle.codec.proofs.Fronts.{front-part, front-nums, front-num, front-byte, front-none}
-use Rattle.codec.proofs.Has.{Has, has-first, has-last, has-more, has-num, has-nums, has-byte, has-part, has-at}
+use Rattle.codec.proofs.Has.{Has, has-last, has-more, has-num, has-nums, has-part, has-at}
 use Rattle.codec.proofs.OneByte.{one-byte}
 use Rattle.codec.proofs.CheckLaws.{seal-length, seal-seals, sealed-is}
-use Rattle.header.specs.Header.{headerFits, limitsFit, bytesAt, tableAt, tableOf, parseHeader, headerBody, imageHeader, wellMadeHeader}
+use Rattle.header.specs.Header.{headerFits, bytesAt, tableAt, tableOf, parseHeader, headerBody, imageHeader, wellMadeHeader}
 use Rattle.header.specs.declared.Header.{Header}
 
 pub table-length : (m : List (List ℕ)) → length (tableOf m) ≡ 64
@@ -56,6 +55,14 @@ well-made-parts l h =
 pub well-made-length : (l : List ℕ) → wellMadeHeader l ≡ true → length l ≡ 512
 well-made-length l h = well-made-parts l h .0
 
+-- the stations of a well-made header
+pub header-small : (l : List ℕ) → wellMadeHeader l ≡ true → parseHeader l .n ≤ 8
+unfolding headerFits
+header-small l h =
+    let p = well-made-parts l h .5 in
+    let a = both (leb 1 (parseHeader l .n)) _ p in
+    leb-true _ _ (both (leb (parseHeader l .n) 8) _ (a .1) .0)
+
 -- ---- the table of limits
 bytes-at-at : (n : ℕ) (l : List ℕ) (at j : ℕ) → j < n → getD (bytesAt n l at) j 0 ≡ getD l (at + j) 0
 bytes-at-at zero l at j h = absurd (omega arith)
@@ -81,12 +88,12 @@ table-row (suc n) l at zero h = refl
 table-row (suc n) l at (suc i) h = table-row n l (at + 8) i (omega arith)
 
 -- a table that is read and written again
-table-forth : (l : List ℕ) → length l ≡ 512 → tableOf (tableAt 8 l 32) ≡ take 64 (drop 32 l)
+pub table-forth : (l : List ℕ) (at : ℕ) → at + 64 ≤ length l → tableOf (tableAt 8 l at) ≡ take 64 (drop at l)
 unfolding tableOf
-table-forth l n =
-    upto-is 64 _ (take 64 (drop 32 l)) 0 (simp (length-take, length-drop) (omega arith))
-    (λ (k : ℕ) (h : k < 64). table-at 8 l 32 (k / 8) (k % 8) (omega arith) (omega arith) ∙ ap (λ (x : ℕ). getD l (32 + x) 0) (omega arith)
-    ∙ sym (getD-take 64 (drop 32 l) k 0 h ∙ getD-drop 32 l k 0))
+table-forth l at n =
+    upto-is 64 _ (take 64 (drop at l)) 0 (simp (length-take, length-drop) (omega arith))
+    (λ (k : ℕ) (h : k < 64). table-at 8 l at (k / 8) (k % 8) (omega arith) (omega arith) ∙ ap (λ (x : ℕ). getD l (at + x) 0) (omega arith)
+    ∙ sym (getD-take 64 (drop at l) k 0 h ∙ getD-drop at l k 0))
 
 -- eight rows of eight bytes
 pub record Table (m : List (List ℕ)) : Type 0 where
@@ -124,7 +131,7 @@ accepted-is-image l b h =
     let f3 = front-num l b 2 2 _ f2 (omega arith) in
     let f4 = front-part l b 12 4 _ (blank 12) f3 (zero-part l 12 4 (omega arith) (p .3)) in
     let f5 = front-nums l b 2 8 16 _ f4 (omega arith) in
-    let f6 = front-part l b 64 32 _ (tableOf (tableAt 8 l 32)) f5 (sym (table-forth l n)) in
+    let f6 = front-part l b 64 32 _ (tableOf (tableAt 8 l 32)) f5 (sym (table-forth l 32 (omega arith))) in
     let f7 = front-part l b 414 96 _ (blank 414) f6 (zero-part l 414 96 (omega arith) (p .4)) in
     ap sealOf (rw (p .2) at (f7 .is)) ∙ sealed-is l b n (p .1)
 

@@ -68,20 +68,36 @@ fn bytes_at(s: &[u8], at: usize) -> [u8; 8]
     [s[at], s[b], s[c], s[d], s[e], s[f], s[g], s[h]]
 }
 
-// The limits of a header block, row by row.
+// Eight rows of eight limits, from a place on.
+pub fn table_at(s: &[u8], at: usize) -> [[u8; 8]; 8]
+    requires { ⌜ at + 64 ≤ length (now s) ⌝ }
+    ensures { λ r. ⌜ r ≡ tableAt 8 (now (s .entry)) at ⌝ }
+{
+    let b = at + 8;
+    let c = b + 8;
+    let d = c + 8;
+    let e = d + 8;
+    let f = e + 8;
+    let g = f + 8;
+    let h = g + 8;
+    [
+        bytes_at(s, at),
+        bytes_at(s, b),
+        bytes_at(s, c),
+        bytes_at(s, d),
+        bytes_at(s, e),
+        bytes_at(s, f),
+        bytes_at(s, g),
+        bytes_at(s, h),
+    ]
+}
+
+// The limits of a header block.
 pub fn load_limits(s: &[u8]) -> [[u8; 8]; 8]
     requires { ⌜ length (now s) ≡ 512 ⌝ }
     ensures { λ r. ⌜ r ≡ tableAt 8 (now (s .entry)) 32 ⌝ }
 {
-    let a = bytes_at(s, 32);
-    let b = bytes_at(s, 40);
-    let c = bytes_at(s, 48);
-    let d = bytes_at(s, 56);
-    let e = bytes_at(s, 64);
-    let f = bytes_at(s, 72);
-    let g = bytes_at(s, 80);
-    let h = bytes_at(s, 88);
-    [a, b, c, d, e, f, g, h]
+    table_at(s, 32)
 }
 
 // The other fields of a header block.

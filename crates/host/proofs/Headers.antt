@@ -1,12 +1,12 @@
 -- The fields of a header, in numbers and bytes. Assumes nothing.
-use Prim.Native.Nat.{ℕ, _+_, _/_, _%_, _≤_, _<_}
+use Prim.Native.Nat.{ℕ, _+_, _≤_, _<_}
 use native.Mathlib.Omega.{arith}
-use mathlib.Core.Path.{_≡_, refl, sym, ap, _∙_}
+use mathlib.Core.Path.{_≡_, refl, ap, _∙_}
 use mathlib.Core.List.{List, [], _∷_, _++_}
 use mathlib.Core.Bool.{Bool, true, false, cond}
 use lib.Dec.{eqb, leb, ltb}
 use lib.ListN.{length, getD, take, drop, length-take, length-drop}
-use lib.Seq.{getD-take, getD-drop, drop-cons, take-all, take-at}
+use lib.Seq.{drop-cons, take-all, take-at}
 use borrow.Author.Tests.{eqb-true, leb-true, le-ltb}
 use Rattle.codec.specs.Num.{AreBytes, bytesOf, numAt, numsOf, numsAt}
 use Rattle.codec.specs.Splice.{splice}
@@ -15,10 +15,9 @@ use Rattle.codec.proofs.EveryLaws.{both}
 use Rattle.codec.proofs.Fronts.{bytes-at, nums-at}
 use Rattle.codec.proofs.Has.{nums-below}
 use Rattle.codec.proofs.SpliceLaws.{first, next}
-use Rattle.codec.proofs.Stride.{upto-is}
 use Rattle.header.specs.Header.{headerFits, tableAt, tableOf, parseHeader, imageHeader, writeHeader}
 use Rattle.header.specs.declared.Header.{Header}
-use Rattle.header.proofs.Laws.{Typed, Table, table-at, table-rows, table-row, image-length, parse-image, table-image, image-accepted}
+use Rattle.header.proofs.Laws.{Typed, Table, table-forth, table-rows, table-row, image-length, parse-image, table-image, image-accepted}
 use Rattle.host.specs.Headers.{fieldsFit, headerOf, headerWritten, fieldBytes, headerFields}
 
 -- fields that fit, part by part
@@ -29,14 +28,6 @@ fit-parts n t x m h =
     let q = both (eqb (length m) 64) _ (p .1) in
     let r = both (leb n 255) _ (q .1) in
     (eqb-true _ _ (p .0), eqb-true _ _ (q .0), leb-true _ _ (r .0), leb-true _ _ (r .1))
-
--- limits that are read, written again
-table-forth : (l : List ℕ) (at : ℕ) → at + 64 ≤ length l → tableOf (tableAt 8 l at) ≡ take 64 (drop at l)
-unfolding tableOf
-table-forth l at n =
-    upto-is 64 _ (take 64 (drop at l)) 0 (simp (length-take, length-drop) (omega arith))
-    (λ (k : ℕ) (h : k < 64). table-at 8 l at (k / 8) (k % 8) (omega arith) (omega arith) ∙ ap (λ (x : ℕ). getD l (at + x) 0) (omega arith)
-    ∙ sym (getD-take 64 (drop at l) k 0 h ∙ getD-drop at l k 0))
 
 -- the fields of a block stand in its bytes 1 to 3, 16 to 31 and 32 to 95
 fields-are : (l : List ℕ) → AreBytes l → length l ≡ 512 → take 3 (drop 1 l) ++ take 16 (drop 16 l) ++ take 64 (drop 32 l) ≡ fieldBytes (parseHeader l) (tableAt 8 l 32)

@@ -3,21 +3,19 @@ use Prim.Native.Nat.{ℕ}
 use mathlib.Core.Path.{_≡_, refl, sym, ap, _∙_}
 use mathlib.Core.List.{List}
 use mathlib.Core.Bool.{Bool, true, false, cond, true≢false}
-use lib.Dec.{eqb}
 use lib.ListN.{length}
 use borrow.Author.Tests.{eq-eqb, ne-eqb}
 use Rattle.codec.specs.Splice.{splice}
 use Rattle.codec.proofs.SpliceLaws.{splice-all}
 use Rattle.record.specs.Record.{imageRecord}
-use Rattle.record.specs.declared.Record.{Record}
 use Rattle.record.proofs.Laws.{image-length}
-use Rattle.reset.specs.State.{Mode, normal, mute, standBy}
+use Rattle.reset.specs.State.{normal, mute, standBy}
 use Rattle.reset.specs.Steps.{Step, Answer, refused, entry, modeAfter}
 use Rattle.stepped.specs.Answers.{steppedOf}
 use Rattle.stepped.specs.declared.Answer.{Answer as CodeAnswer}
 use Rattle.stepped.specs.declared.Answer.the-variants.{Refused as NotDone, Entered, InMode}
 use Rattle.stepped.specs.declared.Stepped.{Stepped}
-use Rattle.calls.specs.Calls.{AreaStep, stepOn}
+use Rattle.calls.specs.Calls.{stepOn}
 use Rattle.network.specs.Answers.{Steps}
 use Rattle.host.specs.Numbers.{stepNumber, codeNumber, isEntry}
 use Rattle.host.specs.Calls.{HostStep, told, hostStep, recordAfter, eventAfter, Returns}

@@ -3,7 +3,7 @@ ghost use mathlib.Core.Path.{_≡_};
 ghost use Prim.Native.Nat.{_≤_, _+_};
 ghost use lib.ListN.{length};
 ghost use Rattle.codec.specs.Splice.{splice};
-ghost use Rattle.header.specs.Header.{bytesAt, tableAt, parseHeader};
+ghost use Rattle.header.specs.Header.{tableAt, parseHeader};
 ghost use Rattle.archive.specs.Archive.{countRecords};
 ghost use Rattle.reset.specs.Steps.{enter as Enter, send as Send, recv as Recv, start as Start};
 ghost use Rattle.verdict.specs.Compare.{verdictOn};
@@ -235,36 +235,6 @@ fn header_of(n: u8, t: u16, allowances: &[u8]) -> Header
     }
 }
 
-fn row_at(s: &[u8], at: usize) -> [u8; 8]
-    requires { ⌜ at + 8 ≤ length (now s) ⌝ }
-    ensures { λ r. ⌜ r ≡ bytesAt 8 (now (s .entry)) at ⌝ }
-{
-    let b = at + 1;
-    let c = b + 1;
-    let d = c + 1;
-    let e = d + 1;
-    let f = e + 1;
-    let g = f + 1;
-    let h = g + 1;
-    [s[at], s[b], s[c], s[d], s[e], s[f], s[g], s[h]]
-}
-
-// Eight rows of eight limits.
-fn table_of(s: &[u8]) -> [[u8; 8]; 8]
-    requires { ⌜ length (now s) ≡ 64 ⌝ }
-    ensures { λ r. ⌜ r ≡ tableAt 8 (now (s .entry)) 0 ⌝ }
-{
-    let a = row_at(s, 0);
-    let b = row_at(s, 8);
-    let c = row_at(s, 16);
-    let d = row_at(s, 24);
-    let e = row_at(s, 32);
-    let f = row_at(s, 40);
-    let g = row_at(s, 48);
-    let h = row_at(s, 56);
-    [a, b, c, d, e, f, g, h]
-}
-
 #[no_mangle]
 pub extern "C" fn melontime_write_header(
     n: u32,
@@ -279,7 +249,7 @@ pub extern "C" fn melontime_write_header(
         return 1;
     }
     let h = header_of(n as u8, t as u16, allowances);
-    header::write(h, table_of(limits), area) as u64
+    header::write(h, header::table_at(limits, 0), area) as u64
 }
 
 // The fields of a header block: its bytes 1 to 3 are n and t, then come the allowances from 16 and the limits from 32.

@@ -1,19 +1,19 @@
 -- A link's bytes: what is written is read back, and what is accepted is the image of a queue in range. Assumes nothing.
-use Prim.Native.Nat.{ℕ, zero, suc, _+_, _*_, _-_, _≤_, _<_}
+use Prim.Native.Nat.{ℕ, _+_, _*_, _-_, _≤_, _<_}
 use mathlib.Core.Path.{_≡_, refl, _∙_, sym, ap}
 use mathlib.Core.List.{List, [], _∷_, _++_, append-assoc, append-nil}
-use mathlib.Core.Bool.{Bool, true, false, cond, _&&_, _||_, and-true, and-false, true≢false}
+use mathlib.Core.Bool.{Bool, true, false, cond, _&&_, _||_, true≢false}
 use native.Mathlib.Omega.{arith}
 use native.Mathlib.Decide.{decLt}
 use lib.Dec.{eqb, leb}
 use lib.ListN.{length, getD, take, drop, set, length-append, length-take, length-drop, take-append-drop, List·getD-eq-default}
 use lib.Seq.{take-at, drop-at, drop-cons, drop-drop}
-use borrow.Author.Tests.{eqb-true, ne-eqb, leb-true, le-leb, lt-leb}
+use borrow.Author.Tests.{eqb-true, leb-true, le-leb}
 use Rattle.codec.specs.Num.{AreBytes, bytesOf, numAt, numsOf, numsAt}
 use Rattle.codec.specs.Rows.{rows, upto}
 use Rattle.codec.specs.Splice.{splice}
 use Rattle.codec.specs.Every.{blank, every, allZero}
-use Rattle.codec.proofs.NumLaws.{Below}
+use Rattle.codec.proofs.NumLaws.{below-of, of-below}
 use Rattle.codec.proofs.Has.{has-last, has-more, has-num, has-nums, num-below, nums-below}
 use Rattle.codec.proofs.Fronts.{front-nums, front-num, front-byte, front-none, front-all, bytes-take, bytes-drop}
 use Rattle.codec.proofs.SpliceLaws.{drop-past}
@@ -84,19 +84,10 @@ item-image-parse c l b n h = go (passed c l h)
     go (a-req e z) = rw (parse-req l e) (control l 2 n e z)
     go (a-done e z) = rw (parse-done l e) (control l 3 n e z)
 
-below-of : (m : ℕ) (v : List ℕ) → ((k : ℕ) → getD v k 0 < m) → Below m v
-below-of m [] h = tt
-below-of m (x ∷ v) h = (h 0, below-of m v (λ (k : ℕ). h (suc k)))
-
-of-below : (m : ℕ) (v : List ℕ) → 0 < m → Below m v → (k : ℕ) → getD v k 0 < m
-of-below m [] p h k = p
-of-below m (x ∷ v) p h zero = h .0
-of-below m (x ∷ v) p h (suc k) = of-below m v p (h .1) k
-
 -- the counts and the register number of a message's bytes
 message-counts : (v : List ℕ) (g : ℕ) → RangedItem (message v g) → numsAt 2 8 (imageItem (message v g)) 5 ≡ v
 unfolding imageItem
-message-counts v g r = has-nums 2 8 v (has-last ((1 ∷ []) ++ bytesOf 4 g) (numsOf 2 8 v) 5 refl) (r .0) (below-of 65536 v (r .1))
+message-counts v g r = has-nums 2 8 v (has-last ((1 ∷ []) ++ bytesOf 4 g) (numsOf 2 8 v) 5 refl) (r .0) (below-of 65536 v (λ (k : ℕ) (b : k < length v). r .1 k))
 
 message-register : (v : List ℕ) (g : ℕ) → RangedItem (message v g) → numAt 4 (imageItem (message v g)) 1 ≡ g
 unfolding imageItem

@@ -6,7 +6,6 @@ use lib.ListN.{getD, replicate}
 use Rattle.codec.specs.Every.{every}
 use Rattle.codec.specs.Check.{weighted, checkOf}
 use Rattle.clock.specs.Order.{sameCounts, noGreater, verdictOf}
-use Rattle.clock.specs.declared.Verdict.{Verdict}
 use Rattle.clock.specs.declared.Verdict.the-variants.{Before, Unordered}
 use Rattle.reset.specs.State.{normal, mute, standBy}
 use Rattle.reset.specs.Worked.{Line, entryLine, modeLine, noLine, lines, pair, listing}

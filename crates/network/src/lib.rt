@@ -1,5 +1,4 @@
 // The network in a lent area: the four steps, each on an area of any length and content.
-ghost use mathlib.Core.Path.{_≡_};
 ghost use Rattle.reset.specs.Steps.{enter as Enter, send as Send, recv as Recv, start as Start};
 ghost use Rattle.network.specs.Answers.{Steps};
 use stepped::Stepped;

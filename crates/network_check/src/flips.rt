@@ -1,5 +1,4 @@
 // Every byte of an image, one at a time, is set to another value: the area is refused, or it is the image of another state.
-ghost use Prim.Native.Nat.{_≤_};
 use crate::show;
 use crate::tables;
 

@@ -1,32 +1,28 @@
 -- The test of what the rules lead to is that of the network's steps, and what a receipt finds on a link. Assumes nothing.
-use Prim.Native.Nat.{ℕ, zero, suc, _+_, _*_, _≤_, _<_}
+use Prim.Native.Nat.{ℕ, _+_, _*_, _<_}
 use mathlib.Core.Path.{_≡_, refl, sym, _∙_, ap}
-use mathlib.Core.List.{List, [], _∷_, _++_}
+use mathlib.Core.List.{List, [], _∷_}
 use mathlib.Core.Bool.{Bool, true, false, not, cond, _&&_, _||_}
 use native.Mathlib.Omega.{arith}
 use lib.Dec.{eqb, leb}
 use lib.ListN.{length, getD}
 use borrow.Author.Tests.{leb-true, ne-eqb}
-use Rattle.codec.specs.Every.{every}
-use Rattle.codec.specs.Num.{AreBytes}
-use Rattle.codec.proofs.EveryLaws.{both, every-at, every-same}
+use Rattle.codec.proofs.EveryLaws.{every-at, every-same}
 use Rattle.reset.specs.Reach.{limit, linked}
-use Rattle.reset.specs.Config.{Config, isStation, neighbours, places, wellMade}
+use Rattle.reset.specs.Config.{Config, neighbours, places, wellMade}
 use Rattle.reset.specs.Clock.{vector}
-use Rattle.reset.specs.State.{Item, message, resetReq, Station, State, stationAt, linkAt, setStation, setLink}
+use Rattle.reset.specs.State.{Item, message, resetReq, Station, State, linkAt, setStation}
 use Rattle.reset.specs.Views.{link-set-station}
-use Rattle.reset.specs.Steps.{modeAfter, Outcome}
-use Rattle.reset.specs.Formed.{formed-of}
-use Rattle.station.specs.View.{modeView, stationView}
-use Rattle.link.specs.Image.{Queue, parseLink, itemAt, itemOf as itemAs, itemView}
+use Rattle.reset.specs.Steps.{modeAfter}
+use Rattle.link.specs.Image.{Queue, itemAt, itemOf as itemAs, itemView}
 use Rattle.link.specs.declared.Item.{Item as CodeItem}
 use Rattle.link.proofs.Laws.{places-most, parse-count, parse-item}
 use Rattle.turning.specs.Turn.{Turning, putItems}
-use Rattle.turning.specs.Slots.{itemOf, turnedView}
+use Rattle.turning.specs.Slots.{turnedView}
 use Rattle.turning.specs.declared.Turned.{Turned}
 use Rattle.bounds.specs.Control.{roomFor}
-use Rattle.area.specs.Layout.{image, linkBytes, configAt, stateAt, test}
-use Rattle.area.proofs.Formed.{link-read, imaged}
+use Rattle.area.specs.Layout.{image, linkBytes, stateAt}
+use Rattle.area.proofs.Formed.{link-read}
 use Rattle.place.proofs.Laws.{link-held}
 use Rattle.controls.specs.Room.{Roomy}
 use Rattle.stepped.specs.Answers.{steppedOf}

@@ -1,8 +1,8 @@
 -- Starts and receipts over an area that passed its test: what the code's tests and changes come to. Assumes nothing.
 use Prim.Native.Nat.{ℕ, _+_, _*_, _≤_, _<_}
 use mathlib.Core.Path.{_≡_, refl, sym, _∙_, ap, ap₂}
-use mathlib.Core.List.{List, [], _∷_, _++_}
-use mathlib.Core.Bool.{Bool, true, false, _&&_}
+use mathlib.Core.List.{List, [], _∷_}
+use mathlib.Core.Bool.{true, false, _&&_}
 use native.Mathlib.Omega.{arith}
 use lib.Dec.{leb}
 use lib.ListN.{length, getD, take}
@@ -13,15 +13,13 @@ use Rattle.reset.specs.Config.{Config, isStation, neighbours, wellMade}
 use Rattle.reset.specs.Clock.{vector}
 use Rattle.reset.specs.State.{Item, message, Station, State, stationAt, linkAt, setStation, setLink}
 use Rattle.reset.specs.Views.{link-set-row}
-use Rattle.reset.specs.Steps.{recv, start, isNormal, receive, receiving, bounded, doMark, entryOf, entry, Outcome}
+use Rattle.reset.specs.Steps.{recv, start, isNormal, receive, receiving, bounded, doMark, entryOf, entry}
 use Rattle.reset.specs.WellFormed.{wellFormed}
 use Rattle.reset.specs.Formed.{formed-of}
 use Rattle.header.specs.Header.{parseHeader, tableAt}
 use Rattle.header.specs.declared.Header.{Header}
 use Rattle.rules.specs.Setup.{headerConfig}
-use Rattle.station.specs.View.{stationView}
-use Rattle.station.specs.declared.Station.{Station as CodeStation}
-use Rattle.turning.specs.Turn.{Turning, turned, started, putItems}
+use Rattle.turning.specs.Turn.{Turning, turned, started}
 use Rattle.turning.specs.Slots.{turnedView}
 use Rattle.turning.specs.declared.Turned.{Turned}
 use Rattle.turning.proofs.TurnLaws.{set-link-set}

@@ -1,7 +1,7 @@
 -- Room on the links out of a station, read off an area. Assumes nothing.
 use Prim.Native.Nat.{ℕ, _+_, _*_}
 use mathlib.Core.List.{List, _++_}
-use mathlib.Core.Bool.{Bool, _&&_, _||_, cond}
+use mathlib.Core.Bool.{Bool, _&&_, _||_}
 use lib.Dec.{eqb, leb}
 use lib.ListN.{length, getD}
 use Rattle.codec.specs.Every.{every}

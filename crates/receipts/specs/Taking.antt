@@ -1,8 +1,8 @@
 -- What receipts and starts do to an area. Assumes nothing.
 use Prim.Native.Nat.{ℕ, _*_, _+_, _<_}
 use mathlib.Core.Path.{_≡_}
-use mathlib.Core.List.{List, [], _∷_, _++_}
-use mathlib.Core.Bool.{Bool, true}
+use mathlib.Core.List.{List, _∷_, _++_}
+use mathlib.Core.Bool.{true}
 use lib.ListN.{getD}
 use Rattle.reset.specs.Config.{Config, isStation, neighbours}
 use Rattle.reset.specs.Clock.{vector}

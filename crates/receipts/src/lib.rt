@@ -1,16 +1,16 @@
 // Receipts and starts over an area that passed its test.
 ghost use mathlib.Core.Path.{_≡_};
-ghost use mathlib.Core.List.{List, [], _∷_};
+ghost use mathlib.Core.List.{List, _∷_};
 ghost use mathlib.Core.Bool.{true};
-ghost use Prim.Native.Nat.{ℕ, _+_, _*_, _≤_, _<_};
-ghost use lib.ListN.{length, getD};
+ghost use Prim.Native.Nat.{_+_, _≤_, _<_};
+ghost use lib.ListN.{length};
 ghost use Rattle.reset.specs.Clock.{vector};
 ghost use Rattle.reset.specs.State.{Item as NetworkItem, message, stationAt, linkAt};
 ghost use Rattle.reset.specs.Steps.{recv as Recv, start as Start};
 ghost use Rattle.station.specs.View.{stationView};
 ghost use Rattle.turning.specs.Slots.{itemOf};
 ghost use Rattle.rules.specs.Setup.{headerConfig};
-ghost use Rattle.area.specs.Layout.{image, linkBytes, configAt, stateAt, test};
+ghost use Rattle.area.specs.Layout.{configAt, stateAt, test};
 ghost use Rattle.controls.specs.Room.{Roomy};
 ghost use Rattle.stepped.specs.Formed.{Does};
 ghost use Rattle.receipts.specs.Room.{roomBytes, items as Items, inBoundsAfter};

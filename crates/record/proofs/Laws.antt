@@ -1,17 +1,17 @@
 -- A record's bytes: what is written is read back, and what is accepted is what the writer makes. Assumes nothing.
 use Prim.Native.Nat.{ℕ, _+_, _<_}
-use mathlib.Core.Path.{_≡_, refl, _∙_, sym, ap}
+use mathlib.Core.Path.{_≡_, refl}
 use mathlib.Core.List.{List, [], _∷_, _++_}
-use mathlib.Core.Bool.{Bool, true, _&&_}
+use mathlib.Core.Bool.{true}
 use native.Mathlib.Omega.{arith}
 use lib.ListN.{length, getD, length-append}
 use lib.Dec.{eqb}
 use borrow.Author.Tests.{eqb-true, eq-eqb}
 use Rattle.codec.specs.Num.{AreBytes, bytesOf, numAt, numsOf}
-use Rattle.codec.proofs.NumLaws.{nums-length, Below}
+use Rattle.codec.proofs.NumLaws.{Below}
 use Rattle.codec.proofs.EveryLaws.{both, join}
-use Rattle.codec.proofs.Has.{Has, has-first, has-last, has-more, has-num, has-nums, has-byte, num-below, nums-below}
-use Rattle.codec.proofs.Fronts.{Front, front-nums, front-num, front-byte, front-none, front-all}
+use Rattle.codec.proofs.Has.{has-last, has-more, has-num, has-nums, num-below, nums-below}
+use Rattle.codec.proofs.Fronts.{front-nums, front-num, front-byte, front-none, front-all}
 use Rattle.record.specs.Record.{imageRecord, parseRecord, recordFits, wellMadeRecord}
 use Rattle.record.specs.declared.Record.{Record}
 

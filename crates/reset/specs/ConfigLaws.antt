@@ -1,19 +1,19 @@
 -- What a well-made header, and one that keeps the network rules, says of its stations and links. Assumes nothing.
-use Prim.Native.Nat.{ℕ, zero, suc, _+_, _≤_, _<_}
+use Prim.Native.Nat.{ℕ, _+_, _≤_, _<_}
 use mathlib.Core.Path.{_≡_, refl, sym, ap, _∙_}
 use mathlib.Core.Logic.{_≢_, _↔_}
 use mathlib.Core.List.{List, []}
-use mathlib.Core.Bool.{Bool, true, false, not, cond, _&&_, _||_, Bool·beq, true≢false}
+use mathlib.Core.Bool.{Bool, true, false, not, _&&_, _||_, Bool·beq, true≢false}
 use native.Mathlib.Omega.{arith}
 use native.Mathlib.Decide.{decLt}
 use lib.Dec.{eqb, leb, ltb}
 use lib.ListN.{length, getD, List·getD-eq-default}
-use borrow.Author.Tests.{eqb-true, eqb-false, eq-eqb, ltb-true, leb-true, not-true, not-false}
+use borrow.Author.Tests.{eqb-true, eqb-false, ltb-true, leb-true, not-true}
 use Rattle.codec.specs.Every.{every}
 use Rattle.codec.proofs.EveryLaws.{both, every-at}
 use Rattle.reset.specs.Reach.{limit, linked, Reached, everyReached}
 use Rattle.reset.specs.ReachLaws.{test-reached, reached-test}
-use Rattle.reset.specs.Config.{Config, isStation, neighbours, sizeFits, allowanceFits, allowancesFit, limitFits, rowFits, limitsFit, wellMade, zeroAt, zeroDiagonal, bothOrNone, linkedBothWays, allowanceBelow, limitBelow, nothingAbove, sum, between, withinAt, withinCeiling, networkRules}
+use Rattle.reset.specs.Config.{Config, neighbours, sizeFits, allowancesFit, limitFits, rowFits, limitsFit, wellMade, zeroAt, zeroDiagonal, bothOrNone, linkedBothWays, allowanceBelow, limitBelow, nothingAbove, sum, between, withinAt, withinCeiling, networkRules}
 
 -- the ranges and lengths of a well-made header
 pub record Shape (c : Config) : Type 0 where

@@ -1,18 +1,18 @@
 -- The spreading test is exact: it holds just when every station below n has a path from station 0. Assumes nothing.
 use Prim.Native.Nat.{ℕ, zero, suc, _+_, _≤_, _<_}
-use mathlib.Core.Path.{_≡_, refl, sym, ap, _∙_}
-use mathlib.Core.Logic.{_≢_, _↔_}
+use mathlib.Core.Path.{_≡_, refl, sym, _∙_}
+use mathlib.Core.Logic.{_≢_}
 use mathlib.Core.List.{List, [], _∷_}
 use mathlib.Core.Bool.{Bool, true, false, not, cond, _&&_, true≢false}
 use native.Mathlib.Omega.{arith}
 use native.Mathlib.Decide.{ℕ-discrete}
 use lib.Dec.{eqb, ltb}
 use lib.ListN.{length, getD, set, length-set}
-use lib.Seq.{getD-set-same, getD-set-other}
-use borrow.Author.Tests.{eqb-true, eqb-false, eq-eqb, ne-eqb, ltb-true, ltb-false, not-true, not-false}
+use lib.Seq.{getD-set-other}
+use borrow.Author.Tests.{eqb-true, eq-eqb, ltb-true, ltb-false, not-true, not-false}
 use Rattle.codec.specs.Every.{every}
 use Rattle.codec.proofs.EveryLaws.{both, every-at, every-of, every-fails}
-use Rattle.reset.specs.Reach.{limit, linked, Path, here, further, Reached, isSeen, apart, joins, first, unseen, spreadBy, reached, zeroAlone, everyReached}
+use Rattle.reset.specs.Reach.{linked, Path, here, further, Reached, isSeen, apart, joins, first, unseen, spreadBy, reached, zeroAlone, everyReached}
 use Rattle.reset.specs.Views.{all-same}
 
 no-both : {A : Type 0} (b : Bool) → b ≡ true → b ≡ false → A

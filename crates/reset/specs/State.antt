@@ -1,7 +1,7 @@
 -- What stations and links hold (document 01, "What a station holds"), and how a state is read and changed. Assumes nothing.
 use Prim.Native.Nat.{ℕ, zero, suc}
 use mathlib.Core.List.{List, [], _∷_, _++_}
-use mathlib.Core.Bool.{Bool, true, false, cond}
+use mathlib.Core.Bool.{Bool, false, cond}
 use lib.ListN.{getD, replicate}
 use Rattle.codec.specs.Put.{put}
 use Rattle.clock.specs.Timestamp.{zeros}

@@ -1,14 +1,14 @@
 -- Laws of every step: the cases of its outcome, that a refused step leaves the state as it was, and what an accepted entry's record bears. Assumes nothing.
-use Prim.Native.Nat.{ℕ, zero, suc, _<_}
+use Prim.Native.Nat.{ℕ, _<_}
 use mathlib.Core.Path.{_≡_, refl}
 use mathlib.Core.List.{List, [], _∷_}
-use mathlib.Core.Bool.{Bool, true, false, not, true≢false}
+use mathlib.Core.Bool.{Bool, true, false, true≢false}
 use native.Mathlib.Omega.{arith}
 use borrow.Author.Tests.{not-false, leb-false}
 use Rattle.reset.specs.Config.{Config, isStation, neighbours, limitAt, allowanceAt}
 use Rattle.reset.specs.Clock.{Clock}
 use Rattle.reset.specs.State.{Mode, normal, mute, standBy, Item, message, resetReq, resetDone, State, stationAt, linkAt, doneSeen, sentTo}
-use Rattle.reset.specs.Steps.{Step, enter, send, recv, start, Entry, Answer, refused, entry, modeAfter, Outcome, refuse, guard, inBounds, bounded, doEnter, maySend, doSend, doReceive, withReq, withDone, doMark, receive, doStart, isNormal, step}
+use Rattle.reset.specs.Steps.{Step, enter, send, recv, start, Entry, refused, entry, modeAfter, Outcome, refuse, guard, inBounds, bounded, doEnter, maySend, doSend, doReceive, withReq, withDone, doMark, receive, doStart, isNormal, step}
 
 -- ---- the tests that refuse
 module _ {K : Clock} (c : Config) (s : State K) (P : Outcome K → Type 0) where
@@ -107,10 +107,10 @@ Bears s (start i) e = ⊥
 abbrev BearsAll : {K : Clock} → State K → Step → Outcome K → Type 0
 BearsAll s p o = (e : Entry) → o .answer ≡ entry e → Bears s p e
 
-refused-entry : {A : Type 0} (k : ℕ) (e : Entry) → refused k ≡ entry e → A
+pub refused-entry : {A : Type 0} (k : ℕ) (e : Entry) → refused k ≡ entry e → A
 refused-entry k e h = let z : _≡_ {A = ℕ} 0 1 = cc in absurd (omega arith)
 
-mode-entry : {A : Type 0} (i : ℕ) (m : Mode) (p : ℕ) (e : Entry) → modeAfter i m p ≡ entry e → A
+pub mode-entry : {A : Type 0} (i : ℕ) (m : Mode) (p : ℕ) (e : Entry) → modeAfter i m p ≡ entry e → A
 mode-entry i m p e h = let z : _≡_ {A = ℕ} 0 1 = cc in absurd (omega arith)
 
 entry-same : (e e′ : Entry) → entry e ≡ entry e′ → e ≡ e′

@@ -1,5 +1,5 @@
 -- The steps (document 01, "The steps"): begin and the reset rules, then enter, send, recv and start with their refusals and answers. Assumes nothing.
-use Prim.Native.Nat.{ℕ, zero, suc}
+use Prim.Native.Nat.{ℕ, suc}
 use mathlib.Core.List.{List, [], _∷_}
 use mathlib.Core.Bool.{Bool, true, false, not, cond, _&&_, _||_}
 use lib.Dec.{leb}

@@ -2,19 +2,19 @@
 -- and the refusals 8 and 9. Assumes nothing.
 use Prim.Native.Nat.{ℕ}
 use mathlib.Core.Path.{_≡_, refl}
-use mathlib.Core.List.{List, [], _∷_, _++_}
+use mathlib.Core.List.{List, [], _∷_}
 use mathlib.Core.Bool.{Bool, true, false}
 use lib.ListN.{replicate}
 use Rattle.codec.specs.Every.{every}
 use Rattle.clock.specs.Timestamp.{zeros}
 use Rattle.reset.specs.Reach.{limit, linked, apart, joins, first, unseen, spreadBy, everyReached}
-use Rattle.reset.specs.Config.{Config, isStation, neighbours, limitAt, allowanceAt, places, allowancesFit, limitsFit, wellMade, zeroDiagonal, linkedBothWays, nothingAbove, sum, withinCeiling, networkRules}
+use Rattle.reset.specs.Config.{Config, allowancesFit, limitsFit, wellMade, zeroDiagonal, linkedBothWays, nothingAbove, sum, withinCeiling, networkRules}
 use Rattle.reset.specs.Clock.{vector}
-use Rattle.reset.specs.State.{Mode, normal, mute, standBy, Item, message, resetReq, resetDone, Station, State, noneSeen, stationAt, linkAt, setStation, setLink}
-use Rattle.reset.specs.Steps.{Step, enter, send, recv, start}
+use Rattle.reset.specs.State.{Mode, normal, mute, standBy, Item, message, resetReq, resetDone, Station, State, noneSeen, setStation, setLink}
+use Rattle.reset.specs.Steps.{enter, send, recv, start}
 use Rattle.reset.specs.Network.{initial, run, quiescent}
 use Rattle.reset.specs.WellFormed.{countsFit, sentFits, marksFit, stationFits, linkFits, shapeFits, wellFormed}
-use Rattle.reset.specs.Worked.{net, allow, limitTo, link, Line, entryLine, modeLine, noLine, linesFrom, lines, pair, listing, lone, strict, middle}
+use Rattle.reset.specs.Worked.{net, allow, limitTo, link, entryLine, modeLine, noLine, linesFrom, pair, listing, lone, strict, middle}
 
 -- ---- headers
 -- the five network rules, in document 01's order

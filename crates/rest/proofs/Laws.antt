@@ -4,14 +4,12 @@ use mathlib.Core.Path.{_≡_, refl, _∙_, sym, ap, ap₂}
 use mathlib.Core.List.{List}
 use mathlib.Core.Bool.{Bool, true, false, _&&_}
 use native.Mathlib.Omega.{arith}
-use lib.Dec.{eqb, leb}
+use lib.Dec.{eqb}
 use lib.ListN.{take}
-use borrow.Author.Tests.{leb-true}
 use Rattle.codec.specs.Every.{every}
-use Rattle.codec.proofs.EveryLaws.{both}
-use Rattle.header.specs.Header.{parseHeader, headerFits}
+use Rattle.header.specs.Header.{parseHeader}
 use Rattle.header.specs.declared.Header.{Header}
-use Rattle.header.proofs.Laws.{well-made-parts}
+use Rattle.header.proofs.Laws.{header-small}
 use Rattle.reset.specs.Clock.{vector}
 use Rattle.reset.specs.State.{Station, State, stationAt}
 use Rattle.reset.specs.Steps.{isNormal}
@@ -54,11 +52,7 @@ settled-is a i x y b l e f g =
 -- ---- an area that passed its test
 module _ (a : List ℕ) (w : test a ≡ true) (h : Header) (e : h ≡ parseHeader (take 512 a)) where
   pub n-small : h .n ≤ 8
-  unfolding headerFits
-  n-small =
-      let p = well-made-parts (take 512 a) (tested a w .head) .5 in
-      let q = both (leb 1 (parseHeader (take 512 a) .n)) _ p in
-      rw e (leb-true _ _ (both (leb (parseHeader (take 512 a) .n) 8) _ (q .1) .0))
+  n-small = rw e (header-small (take 512 a) (tested a w .head))
 
   -- of the configuration, quiescence reads n alone
   pub quiescent-is : quiescent (configAt a) (stateAt a) ≡ quiescent (sized (h .n) 0) (stateAt a)

@@ -1,14 +1,14 @@
 -- A header's test of its ranges is the test of the configuration that its fields make. Assumes nothing.
-use Prim.Native.Nat.{ℕ, zero, suc, _≤_, _<_}
+use Prim.Native.Nat.{ℕ, _≤_, _<_}
 use mathlib.Core.Path.{_≡_, refl, sym, ap, _∙_}
-use mathlib.Core.List.{List, [], _∷_}
+use mathlib.Core.List.{List, []}
 use mathlib.Core.Bool.{Bool, true, false, _&&_}
 use native.Mathlib.Omega.{arith}
 use lib.Dec.{eqb, leb}
 use lib.ListN.{length, getD}
 use borrow.Author.Tests.{eq-eqb, le-leb, leb-true}
 use Rattle.codec.specs.Num.{AreBytes}
-use Rattle.codec.proofs.NumLaws.{Below}
+use Rattle.codec.proofs.NumLaws.{Below, below-of, of-below}
 use Rattle.codec.proofs.Has.{num-below, nums-below}
 use Rattle.codec.proofs.EveryLaws.{both, every-at, every-of, every-same}
 use Rattle.header.specs.Header.{rowFits, limitsFit, headerFits, tableAt, parseHeader, imageHeader, wellMadeHeader}
@@ -19,22 +19,12 @@ use Rattle.reset.specs.Config.{Config, sizeFits, allowanceFits, allowancesFit, 
 use Rattle.reset.specs.ConfigLaws.{shape}
 use Rattle.rules.specs.Setup.{headerConfig, blockConfig, headerOf}
 
--- ---- numbers of a list below a bound, by index
-below-at : (b : ℕ) (l : List ℕ) → Below b l → (i : ℕ) → i < length l → getD l i 0 < b
-below-at b [] h i g = absurd (omega arith)
-below-at b (x ∷ l) h zero g = h .0
-below-at b (x ∷ l) h (suc i) g = below-at b l (h .1) i (omega arith)
-
-below-of : (b : ℕ) (l : List ℕ) → ((i : ℕ) → i < length l → getD l i 0 < b) → Below b l
-below-of b [] h = tt
-below-of b (x ∷ l) h = (h 0 (omega arith), below-of b l (λ (i : ℕ) (g : i < length l). h (suc i) (omega arith)))
-
 -- ---- the two tests
 allowances-fit : (a : List ℕ) → length a ≡ 8 → Below 65536 a → allowancesFit a ≡ true
 unfolding allowancesFit
 allowances-fit a n b =
     rw (eq-eqb _ 8 n)
-    (every-of 8 (allowanceFits a) (λ (i : ℕ) (h : i < 8). let g = below-at 65536 a b i (omega arith) in le-leb (getD a i 0) 65535 (omega arith)))
+    (every-of 8 (allowanceFits a) (λ (i : ℕ) (h : i < 8). let g = of-below 65536 a (omega arith) b i in le-leb (getD a i 0) 65535 (omega arith)))
 
 table-fits : (m : List (List ℕ)) → Table m → tableFits m ≡ limitsFit m
 unfolding tableFits limitsFit rowFits limit

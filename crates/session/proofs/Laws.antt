@@ -1,14 +1,13 @@
 -- An input that comes in parts: a line more, and the end. Assumes nothing.
 use Prim.Native.Nat.{ℕ}
 use mathlib.Core.Path.{_≡_, refl, sym, _∙_, ap}
-use mathlib.Core.Bool.{Bool, true, false, cond, true≢false}
+use mathlib.Core.Bool.{Bool, true, false, true≢false}
 use mathlib.Core.List.{List, [], _∷_, _++_, append-assoc}
 use lib.Dec.{eqb}
 use Rattle.command.specs.Parse.{parseOf}
 use Rattle.command.specs.declared.Command.{Command}
 use Rattle.lines.specs.Lines.{Split, unended, ended, splitFrom, andThen, allOf, ends, before, behind}
 use Rattle.lines.proofs.LineLaws.{split-append, split-first}
-use Rattle.settings.specs.declared.Run.{Run}
 use Rattle.settings.specs.declared.Stage.the-variants.{Ended}
 use Rattle.driver.specs.declared.Told.{Told}
 use Rattle.driver.specs.Run.{Standing, Telling, standing, obeyed, obeyedIn, closed, closedIn, Tells}

@@ -1,5 +1,4 @@
 // A run of turnover over an input that comes in parts: a line at a time, each printed into a lent buffer.
-use lines::Filled;
 use settings::Run;
 ghost use mathlib.Core.Path.{_≡_};
 ghost use mathlib.Core.List.{List, []};

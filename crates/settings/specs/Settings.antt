@@ -1,7 +1,7 @@
 -- The settings of a run of turnover before setup (document 01, "turnover"). Assumes nothing.
 use Prim.Native.Nat.{ℕ, _+_, _*_}
 use mathlib.Core.List.{List, [], _∷_}
-use mathlib.Core.Bool.{Bool, true, false, cond, _&&_}
+use mathlib.Core.Bool.{cond, _&&_}
 use lib.Dec.{eqb, ltb}
 use lib.ListN.{replicate, set}
 use Rattle.codec.specs.Splice.{splice}
@@ -11,7 +11,7 @@ use Rattle.header.specs.Header.{tableAt, writeHeader}
 use Rattle.calls.specs.Calls.{setupOn}
 use Rattle.settings.specs.declared.Run.{Run}
 use Rattle.settings.specs.declared.Stage.{Stage}
-use Rattle.settings.specs.declared.Stage.the-variants.{Opening, Setting, Stepping, Ended}
+use Rattle.settings.specs.declared.Stage.the-variants.{Opening, Setting}
 
 -- a run before its first line
 abbrev pub openedRun : Run

@@ -9,20 +9,18 @@ use lib.Dec.{eqb, leb}
 use lib.ListN.{length, getD, take, drop, length-append, length-take, length-drop, List·getD-eq-default}
 use lib.Seq.{getD-take, getD-drop, drop-cons}
 use borrow.Author.Tests.{eqb-true, leb-true, le-leb}
-use Rattle.codec.specs.Num.{AreBytes, bytesOf, numsOf, numsAt}
+use Rattle.codec.specs.Num.{AreBytes, bytesOf, numsOf}
 use Rattle.codec.specs.Rows.{upto}
-use Rattle.codec.specs.Every.{blank}
-use Rattle.codec.proofs.NumLaws.{nums-length, Below}
+use Rattle.codec.proofs.NumLaws.{nums-length, below-of}
 use Rattle.codec.proofs.EveryLaws.{both, join, every-at, every-of}
 use Rattle.codec.proofs.Stride.{upto-length, upto-at, upto-is}
 use Rattle.codec.proofs.Fronts.{front-part, front-nums, front-num, front-none, front-all}
-use Rattle.codec.proofs.Has.{Has, has-first, has-last, has-more, has-num, has-nums, has-byte, has-at, num-below, nums-below}
-use Rattle.clock.specs.Timestamp.{zeros}
+use Rattle.codec.proofs.Has.{Has, has-first, has-last, has-more, has-num, has-nums, has-byte, has-at}
 use Rattle.reset.specs.Config.{Config, isStation, limitAt, allowanceAt, sizeFits, allowanceFits, allowancesFit, wellMade}
 use Rattle.reset.specs.Reach.{limit}
 use Rattle.reset.specs.ConfigLaws.{shape}
 use Rattle.reset.specs.Clock.{vector}
-use Rattle.reset.specs.State.{Mode, normal, mute, standBy, Station, noneSeen, blankStation}
+use Rattle.reset.specs.State.{Mode, normal, mute, standBy, Station}
 use Rattle.reset.specs.WellFormed.{ofStation, countFits, countsFit, modeFits, phaseFits, ownFits, sentFitsTo, sentFits, marksFit, stationFits}
 use Rattle.station.specs.Image.{markByte, sentOf, marksOf, modeByte, imageStation, byteAt, markAt, modeOf, parseStation, Ranged}
 use Rattle.station.specs.Test.{markFits, stationBytesFit, stationTest}
@@ -38,16 +36,6 @@ marks-length l = upto-length 8 _
 pub image-length : (x : Station vector) → length (imageStation x) ≡ 47
 unfolding imageStation
 image-length x = simp (length-append, sent-length, marks-length)
-
--- ---- numbers below a bound, by index and along the list
-below-of : (m : ℕ) (l : List ℕ) → ((k : ℕ) → getD l k 0 < m) → Below m l
-below-of m [] h = tt
-below-of m (x ∷ l) h = (h 0, below-of m l (λ (k : ℕ). h (suc k)))
-
-at-of : (m : ℕ) (l : List ℕ) → 0 < m → Below m l → (k : ℕ) → getD l k 0 < m
-at-of m [] z h k = z
-at-of m (x ∷ l) z h zero = h .0
-at-of m (x ∷ l) z h (suc k) = at-of m l z (h .1) k
 
 -- ---- what is parsed, written again
 -- a byte that is at most 1 is that of the mark it is read as; one that is at most 2 that of the mode
@@ -171,7 +159,7 @@ module _ (x : Station vector) where
   unfolding parseStation
   parse-image r =
       rw (
-        has-nums 2 8 (x .time) (places .counts-at) (r .time8) (below-of 65536 (x .time) (r .counts-below)),
+        has-nums 2 8 (x .time) (places .counts-at) (r .time8) (below-of 65536 (x .time) (λ (k : ℕ) (b : k < length (x .time)). r .counts-below k)),
         has-num 4 (x .phase) (places .phase-at) (r .phase-below),
         has-num 2 (x .own) (places .own-at) (r .own-below),
         has-byte (modeByte (x .mode)) (places .mode-at),

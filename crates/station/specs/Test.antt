@@ -1,19 +1,14 @@
 -- The test of a station's 47 bytes. Assumes nothing.
 use Prim.Native.Nat.{ℕ}
 use mathlib.Core.List.{List}
-use mathlib.Core.Bool.{Bool, false, not, cond, _&&_, _||_}
-use lib.Dec.{eqb, leb, ltb}
+use mathlib.Core.Bool.{Bool, false, not, _&&_, _||_}
+use lib.Dec.{eqb, leb}
 use lib.ListN.{length, getD}
 use Rattle.codec.specs.Every.{every}
 use Rattle.clock.specs.Range.{countsFit}
-use Rattle.header.specs.declared.Header.{Header}
 use Rattle.reset.specs.Config.{Config}
 use Rattle.reset.specs.WellFormed.{stationFits}
 use Rattle.station.specs.Image.{byteAt, parseStation}
-
--- the network of a header's fields and limits
-abbrev pub configOf : Header → List (List ℕ) → Config
-configOf h m = record { n = h .n; t = h .t; allowances = h .allowances; limits = m }
 
 -- ---- the tests of a record's lists
 -- eight counts, each at most b, and 0 for stations n and above

@@ -7,7 +7,8 @@ ghost use Rattle.codec.specs.Splice.{splice};
 ghost use Rattle.codec.specs.Rows.{upto};
 ghost use Rattle.reset.specs.Steps.{isNormal};
 ghost use Rattle.reset.specs.WellFormed.{stationFits};
-ghost use Rattle.station.specs.Test.{countsWithin, sentWithin, marksWithin, configOf, stationBytesFit, stationTest};
+ghost use Rattle.rules.specs.Setup.{headerConfig};
+ghost use Rattle.station.specs.Test.{countsWithin, sentWithin, marksWithin, stationBytesFit, stationTest};
 ghost use Rattle.station.specs.View.{modeView, stationView};
 ghost use Rattle.station.specs.Image.{byteAt, markAt, modeOf, modeByte, markByte, sentOf, marksOf, parseStation, imageStation};
 use header::Header;
@@ -231,7 +232,7 @@ fn marks_fit(row: [u8; 8], reqs: [bool; 8], dones: [bool; 8]) -> bool
 // Every field of station i's record is in its range.
 fn fits(h: Header, limits: [[u8; 8]; 8], i: usize, s: Station) -> bool
     requires { ⌜ i < 8 ⌝ }
-    ensures { λ r. ⌜ r ≡ stationFits (configOf h limits) i (stationView s) ⌝ }
+    ensures { λ r. ⌜ r ≡ stationFits (headerConfig h limits) i (stationView s) ⌝ }
 {
     let n = h.n;
     let known = i < wide(n);
@@ -251,7 +252,7 @@ fn fits(h: Header, limits: [[u8; 8]; 8], i: usize, s: Station) -> bool
 // The bytes of a part are the image of a record of station i in its range.
 pub fn test(h: Header, limits: [[u8; 8]; 8], i: usize, part: &[u8]) -> bool
     requires { ⌜ (i < 8) × (length (now part) ≡ 47) ⌝ }
-    ensures { λ r. ⌜ r ≡ stationTest (configOf h limits) i (now (part .entry)) ⌝ }
+    ensures { λ r. ⌜ r ≡ stationTest (headerConfig h limits) i (now (part .entry)) ⌝ }
 {
     bytes_fit(part) & fits(h, limits, i, load(part))
 }

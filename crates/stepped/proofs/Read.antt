@@ -1,10 +1,10 @@
 -- What a step reads of an area that passed its test, and how its outcome is put together. Assumes nothing.
-use Prim.Native.Nat.{ℕ, _+_, _*_, _≤_, _<_}
+use Prim.Native.Nat.{ℕ, _≤_, _<_}
 use mathlib.Core.Path.{_≡_, refl, sym, _∙_, ap}
-use mathlib.Core.List.{List, [], _∷_}
-use mathlib.Core.Bool.{Bool, true, false, not, _&&_}
+use mathlib.Core.List.{List, []}
+use mathlib.Core.Bool.{true, false, _&&_}
 use native.Mathlib.Omega.{arith}
-use lib.Dec.{ltb, eqb}
+use lib.Dec.{eqb}
 use lib.ListN.{length, getD, take}
 use borrow.Author.Tests.{lt-ltb, le-ltb, eq-eqb, ne-eqb, leb-true}
 use Rattle.codec.specs.Num.{AreBytes}
@@ -12,21 +12,20 @@ use Rattle.codec.proofs.EveryLaws.{both, every-at}
 use Rattle.header.specs.Header.{parseHeader, tableAt}
 use Rattle.header.specs.declared.Header.{Header}
 use Rattle.reset.specs.Reach.{limit, linked}
-use Rattle.reset.specs.Config.{Config, isStation, neighbours, limitAt, allowanceAt, sizeFits, allowanceFits, allowancesFit, wellMade}
+use Rattle.reset.specs.Config.{isStation, neighbours, limitAt, allowanceAt, sizeFits, allowanceFits, allowancesFit, wellMade}
 use Rattle.reset.specs.Clock.{vector}
-use Rattle.reset.specs.State.{Mode, normal, mute, standBy, Station, State, stationAt, linkAt}
-use Rattle.reset.specs.Steps.{Step, Answer, refused, Outcome, refuse, step}
+use Rattle.reset.specs.State.{stationAt}
+use Rattle.reset.specs.Steps.{Step, Outcome, refuse, step}
 use Rattle.reset.specs.WellFormed.{wellFormed}
 use Rattle.reset.specs.Formed.{formed-of}
 use Rattle.reset.specs.ConfigLaws.{shape}
-use Rattle.rules.specs.Setup.{headerConfig, blockConfig}
 use Rattle.station.specs.Image.{parseStation}
 use Rattle.station.specs.View.{modeView, stationView}
 use Rattle.station.specs.declared.Mode.{Mode as CodeMode}
 use Rattle.station.specs.declared.Mode.the-variants.{Normal, Mute, StandBy}
 use Rattle.station.specs.declared.Station.{Station as CodeStation}
 use Rattle.area.specs.Layout.{image, stationBytes, configAt, stateAt, test}
-use Rattle.area.proofs.Formed.{Tested, tested, formed, formed-fits, station-read}
+use Rattle.area.proofs.Formed.{tested, formed, formed-fits, station-read}
 use Rattle.stepped.specs.Answers.{steppedOf, noRecord, modeCode}
 use Rattle.stepped.specs.Formed.{Does}
 use Rattle.stepped.specs.Link.{isLinked}

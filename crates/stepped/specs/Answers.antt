@@ -1,13 +1,10 @@
 -- The code's answers as the network's. Assumes nothing.
-use Prim.Native.Nat.{ℕ}
-use mathlib.Core.List.{List, []}
 use lib.ListN.{replicate}
 use Rattle.record.specs.declared.Record.{Record}
 use Rattle.reset.specs.State.{Mode, normal, mute, standBy}
 use Rattle.reset.specs.Steps.{Entry, Answer, refused, entry, modeAfter}
 use Rattle.station.specs.declared.Mode.{Mode as CodeMode}
 use Rattle.station.specs.declared.Mode.the-variants.{Normal, Mute, StandBy}
-use Rattle.stepped.specs.declared.Answer.{Answer as CodeAnswer}
 use Rattle.stepped.specs.declared.Answer.the-variants.{Refused, Entered, InMode}
 use Rattle.stepped.specs.declared.Stepped.{Stepped}
 

@@ -1,22 +1,17 @@
 -- The tests of a send are those of the network's step. Assumes nothing.
-use Prim.Native.Nat.{ℕ, suc, _+_, _≤_, _<_}
-use mathlib.Core.Path.{_≡_, refl, sym, _∙_, ap}
-use mathlib.Core.List.{List, []}
-use mathlib.Core.Bool.{Bool, true, false, not, _&&_, cond}
+use Prim.Native.Nat.{ℕ, _+_, _<_}
+use mathlib.Core.Path.{_≡_, refl}
+use mathlib.Core.Bool.{Bool, true, false, cond}
 use native.Mathlib.Omega.{arith}
-use native.Mathlib.Decide.{decLt}
-use lib.Dec.{eqb, leb, ltb}
+use lib.Dec.{leb}
 use lib.ListN.{length, getD}
-use borrow.Author.Tests.{lt-ltb, le-ltb, leb-true, leb-false}
-use Rattle.codec.proofs.EveryLaws.{both}
-use Rattle.reset.specs.Reach.{limit, linked}
-use Rattle.reset.specs.Config.{Config, isStation, neighbours, limitAt, places, wellMade}
-use Rattle.reset.specs.ConfigLaws.{linked-small}
+use borrow.Author.Tests.{leb-true, leb-false}
+use Rattle.reset.specs.Reach.{limit}
+use Rattle.reset.specs.Config.{Config, isStation, neighbours, limitAt, places}
 use Rattle.reset.specs.Clock.{vector}
-use Rattle.reset.specs.State.{Station, State, stationAt, linkAt, doneSeen, sentTo}
-use Rattle.reset.specs.Steps.{send, recv, refuse, maySend, doSend, step}
+use Rattle.reset.specs.State.{State, stationAt, linkAt, doneSeen, sentTo}
+use Rattle.reset.specs.Steps.{send, refuse, maySend, doSend, step}
 use Rattle.reset.specs.WellFormed.{wellFormed}
-use Rattle.reset.specs.Formed.{formed-of}
 use Rattle.bounds.specs.Outcome.{send-forbidden, send-used-up, send-full, send-no-room, send-done}
 use Rattle.steps.specs.Sending.{sendRefusal}
 

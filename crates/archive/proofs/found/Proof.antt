@@ -1,5 +1,4 @@
-use mathlib.Core.Path.{_≡_, refl, _∙_, sym, ap}
-use borrow.Author.Tests.{not-true, not-false, lt-ltb, le-ltb, eq-eqb, ne-eqb}
+use borrow.Author.Tests.{eq-eqb, ne-eqb}
 use Rattle.archive.specs.Archive.{foundRecord}
 use borrow.Author.Needs.{needs}
 use Rattle.archive.proofs.found.Statement.{statement}

@@ -1,4 +1,4 @@
-use borrow.Author.Tests.{not-true, not-false, lt-ltb, le-ltb, eq-eqb, ne-eqb}
+use borrow.Author.Tests.{lt-ltb, le-ltb}
 use Rattle.archive.specs.Archive.{recordKnown}
 use borrow.Author.Needs.{needs}
 use Rattle.archive.proofs.record_known.Statement.{statement}

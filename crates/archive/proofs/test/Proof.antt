@@ -1,11 +1,12 @@
-use Prim.Native.Nat.{ℕ, _+_, _*_, _-_, _/_, _%_, _≤_, _<_}
-use mathlib.Core.Path.{_≡_, refl, _∙_, sym, ap}
+use Prim.Native.Nat.{_-_}
+use mathlib.Core.Path.{_∙_, sym}
 use native.Mathlib.Omega.{arith}
-use borrow.Author.Tests.{not-true, not-false, lt-ltb, le-ltb, eq-eqb, ne-eqb}
+use borrow.Author.Tests.{not-true, not-false, eq-eqb, ne-eqb}
 use denote.Ref.{now}
 use lib.ListN.{take}
 use Rattle.archive.specs.Archive.{blocks, archiveTest}
-use Rattle.archive.proofs.Laws.{short-refused, header-small}
+use Rattle.header.proofs.Laws.{header-small}
+use Rattle.archive.proofs.Laws.{short-refused}
 use borrow.Author.Needs.{needs}
 use Rattle.archive.proofs.test.Statement.{statement}
 use Rattle.archive.proofs.test.Tie as tie

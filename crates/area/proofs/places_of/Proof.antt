@@ -3,10 +3,10 @@ use mathlib.Core.Bool.{true}
 use lib.ListN.{getD}
 use Rattle.header.specs.declared.Header.{Header}
 use Rattle.rules.specs.Setup.{headerConfig}
-use Prim.Native.Nat.{ℕ, _+_, _*_, _-_, _/_, _%_, _≤_, _<_}
-use mathlib.Core.Path.{_≡_, refl, _∙_, sym, ap}
+use Prim.Native.Nat.{ℕ, _-_, _≤_, _<_}
+use mathlib.Core.Path.{_≡_}
 use native.Mathlib.Omega.{arith}
-use borrow.Author.Tests.{not-true, not-false, lt-ltb, le-ltb, eq-eqb, ne-eqb}
+use borrow.Author.Tests.{eq-eqb, ne-eqb}
 use Rattle.reset.specs.Reach.{limit, linked}
 use Rattle.reset.specs.Config.{neighbours, places, wellMade}
 use Rattle.reset.specs.ConfigLaws.{shape}

@@ -1,11 +1,10 @@
-use Prim.Native.Nat.{ℕ, _+_, _*_, _-_, _≤_, _<_}
-use mathlib.Core.Path.{_≡_, refl, _∙_, sym, ap}
-use mathlib.Core.List.{List}
+use Prim.Native.Nat.{_+_, _*_, _-_, _≤_}
+use mathlib.Core.Path.{_≡_, refl, sym}
 use native.Mathlib.Omega.{arith}
 use borrow.Author.Needs.{needs}
 use lib.ListN.{length}
 use denote.Ref.{now}
-use Rattle.codec.specs.Num.{bytesOf, numsOf}
+use Rattle.codec.specs.Num.{numsOf}
 use Rattle.codec.specs.Splice.{splice}
 use Rattle.codec.proofs.NumLaws.{nums-turn}
 use Rattle.codec.proofs.SpliceLaws.{splice-none}

@@ -1,62 +1,43 @@
 use borrow.Author.Needs.{needs}
 use Rattle.driver.proofs.answered.Statement.{statement}
 use Rattle.driver.proofs.answered.Tie as tie
-use Rattle.driver.proofs.answered.Reads as reads
-use Rattle.driver.proofs.answered.Lts as lts
-use Rattle.answer.proofs.entry.Reads as entry-reads
-use Rattle.answer.proofs.mode.Reads as mode-reads
-use Rattle.answer.proofs.refused.Reads as refused-reads
-use Rattle.station.proofs.mode_byte.Reads as mode-byte-reads
 
--- src/lib.rt:221:25
 enum-known-a : tie.Need-enum-known-a
 enum-known-a c = search needs
 
--- src/lib.rt:221:37
 refused-requires : tie.Need-refused-requires
 refused-requires c κs = search needs
 
--- src/lib.rt:222:42
 enum-told : tie.Need-enum-told
 enum-told c = search needs
 
--- src/lib.rt:222:28
 entry-requires : tie.Need-entry-requires
 entry-requires c κs = search needs
 
--- src/lib.rt:223:26
 enum-known-a-2 : tie.Need-enum-known-a-2
 enum-known-a-2 c = search needs
 
--- src/lib.rt:224:59
 mode-byte-requires : tie.Need-mode-byte-requires
 mode-byte-requires c κs = search needs
 
--- src/lib.rt:224:13
 mode-requires : tie.Need-mode-requires
 mode-requires c κs = search needs
 
--- src/lib.rt:211:1
 same-length : tie.Need-same-length
 same-length c = search needs
 
--- src/lib.rt:211:1
 returns : tie.Need-returns
 returns c = (rw (c .before .before .before .before .before .a .given .1) (c .before .before .refused .ensures .0), c .before .before .refused .ensures .1)
 
--- src/lib.rt:211:1
 same-length-2 : tie.Need-same-length-2
 same-length-2 c = search needs
 
--- src/lib.rt:211:1
 returns-2 : tie.Need-returns-2
 returns-2 c = (rw (c .before .before .before .before .enum-told .given .1) (c .before .before .entry .ensures .0), c .before .before .entry .ensures .1)
 
--- src/lib.rt:211:1
 same-length-3 : tie.Need-same-length-3
 same-length-3 c = search needs
 
--- src/lib.rt:211:1
 returns-3 : tie.Need-returns-3
 returns-3 c = (rw (c .before .before .before .before .before .before .a2 .given .1, ← c .before .before .before .mode-byte .ensures) (c .before .before .mode .ensures .0), c .before .before .mode .ensures .1)
 

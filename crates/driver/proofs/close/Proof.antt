@@ -1,52 +1,38 @@
+use mathlib.Core.Path.{refl, sym, _∙_}
+use denote.Ref.{now}
+use native.Mathlib.Omega.{arith}
+use borrow.Author.Tests.{eq-eqb, ne-eqb}
+use borrow.Author.Needs.{needs}
 use Rattle.text.proofs.WrittenLaws.{written-none}
-use Rattle.driver.proofs.Laws.{closed-stage}
-use Rattle.driver.specs.Run.{standing}
 use Rattle.settings.specs.declared.Stage.the-variants.{Opening, Setting, Stepping, Ended}
-use Rattle.driver.proofs.Laws.{set-up-ready}
 use Rattle.settings.specs.Settings.{blockOf}
 use Rattle.codec.specs.Num.{AreBytes}
-use borrow.Author.Tests.{eq-eqb, ne-eqb}
-use denote.Ref.{now}
-use mathlib.Core.Path.{_≡_, refl, sym, _∙_}
-use native.Mathlib.Omega.{arith}
-use borrow.Author.Needs.{needs}
+use Rattle.driver.proofs.Laws.{closed-stage, set-up-ready}
+use Rattle.driver.specs.Run.{standing}
 use Rattle.driver.proofs.close.Statement.{statement}
 use Rattle.driver.proofs.close.Tie as tie
-use Rattle.driver.proofs.close.Reads as reads
-use Rattle.driver.proofs.close.Lts as lts
-use Rattle.driver.proofs.refused.Reads as refused-reads
-use Rattle.settings.proofs.set_up.Reads as set-up-reads
-use Rattle.settings.proofs.staged.Reads as staged-reads
 
--- src/lib.rt:262:27
 enum-told : tie.Need-enum-told
 enum-told c = search needs
 
--- src/lib.rt:264:44
 enum-told-2 : tie.Need-enum-told-2
 enum-told-2 c = search needs
 
--- src/lib.rt:264:17
 set-up-requires : tie.Need-set-up-requires
 set-up-requires c κs = search needs
 
--- src/lib.rt:266:17
 refused-requires : tie.Need-refused-requires
 refused-requires c κs = search needs
 
--- src/lib.rt:266:17
 same-length : tie.Need-same-length
 same-length c = search needs
 
--- src/lib.rt:266:17
 same-length-2 : tie.Need-same-length-2
 same-length-2 c = search needs
 
--- src/lib.rt:266:17
 same-length-3 : tie.Need-same-length-3
 same-length-3 c = search needs
 
--- src/lib.rt:266:17
 returns : tie.Need-returns
 returns c =
     let u = c .before .before .before .before .before .before .before .before .before .set-up .ensures in
@@ -56,33 +42,26 @@ returns c =
       rw (t (now (g .block)) (now (g .area)) .run) tt,
     )
 
--- src/lib.rt:269:22
 staged-requires : tie.Need-staged-requires
 staged-requires c κs = search needs
 
--- src/lib.rt:273:28
 enum-told-3 : tie.Need-enum-told-3
 enum-told-3 c = search needs
 
--- src/lib.rt:274:25
 enum-told-4 : tie.Need-enum-told-4
 enum-told-4 c = search needs
 
--- src/lib.rt:255:1
 returns-2 : tie.Need-returns-2
 returns-2 c =
     let g = c .before .before .before .before .before .args in
     (closed-stage (standing (g .run) (now (g .block)) (now (g .area))) Opening (c .enum-told .given .1) (record { run = refl; block = refl; area = refl; text = written-none _ _; short = omega arith }), c .before .before .before .before .before .pre .2)
 
--- src/lib.rt:255:1
 same-length-4 : tie.Need-same-length-4
 same-length-4 c = search needs
 
--- src/lib.rt:255:1
 same-length-5 : tie.Need-same-length-5
 same-length-5 c = search needs
 
--- src/lib.rt:255:1
 returns-3 : tie.Need-returns-3
 returns-3 c =
     let u = c .before .before .before .before .before .before .set-up .ensures in
@@ -93,13 +72,11 @@ returns-3 c =
       rw (c .staged .ensures, u .1 .1) (set-up-ready (now (g .block)) (now (g .area)) (g .run) y (sym (u .0) ∙ c .before .if1 .left)),
     )
 
--- src/lib.rt:255:1
 returns-4 : tie.Need-returns-4
 returns-4 c =
     let g = c .before .before .before .before .before .args in
     (closed-stage (standing (g .run) (now (g .block)) (now (g .area))) Stepping (c .enum-told3 .given .1) (record { run = refl; block = refl; area = refl; text = written-none _ _; short = omega arith }), c .before .before .before .before .before .pre .2)
 
--- src/lib.rt:255:1
 returns-5 : tie.Need-returns-5
 returns-5 c =
     let g = c .before .before .before .before .before .args in

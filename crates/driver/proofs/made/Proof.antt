@@ -1,44 +1,32 @@
+use Prim.Native.Nat.{_+_}
+use mathlib.Core.Path.{refl}
+use native.Mathlib.Omega.{arith}
+use borrow.Author.Tests.{eq-eqb, ne-eqb}
+use borrow.Author.Needs.{needs}
 use Rattle.text.proofs.WrittenLaws.{written-none}
 use Rattle.driver.proofs.Laws.{told-text}
 use Rattle.driver.specs.Run.{lastNumber}
-use borrow.Author.Tests.{eq-eqb, ne-eqb}
-use Prim.Native.Nat.{_+_}
-use mathlib.Core.Path.{_≡_, refl, sym, _∙_}
-use native.Mathlib.Omega.{arith}
-use borrow.Author.Needs.{needs}
 use Rattle.driver.proofs.made.Statement.{statement}
 use Rattle.driver.proofs.made.Tie as tie
-use Rattle.driver.proofs.made.Reads as reads
-use Rattle.driver.proofs.made.Lts as lts
-use Rattle.driver.proofs.answered.Reads as answered-reads
-use Rattle.settings.proofs.numbered.Reads as numbered-reads
-use Rattle.settings.proofs.staged.Reads as staged-reads
 
--- src/lib.rt:115:18
 staged-requires : tie.Need-staged-requires
 staged-requires c κs = search needs
 
--- src/lib.rt:114:9
 returns : tie.Need-returns
 returns c = λ b a o e f. rw (eq-eqb _ lastNumber (c .before .if1 .taken)) (record { run = c .staged .ensures; block = refl; area = f; text = written-none _ _; short = omega arith })
 
--- src/lib.rt:119:18
 add-number : tie.Need-add-number
 add-number c = search needs
 
--- src/lib.rt:122:14
 numbered-requires : tie.Need-numbered-requires
 numbered-requires c κs = search needs
 
--- src/lib.rt:123:14
 answered-requires : tie.Need-answered-requires
 answered-requires c κs = search needs
 
--- src/lib.rt:108:1
 same-length : tie.Need-same-length
 same-length c = search needs
 
--- src/lib.rt:108:1
 returns-2 : tie.Need-returns-2
 returns-2 c = λ b a o e f.
     let g = c .before .before .before .before .before .before .before .args in

@@ -1,91 +1,68 @@
-use Rattle.text.proofs.WrittenLaws.{written-none}
-use Rattle.driver.proofs.Laws.{in-stage}
-use Rattle.driver.specs.Run.{standing}
-use Rattle.settings.specs.declared.Stage.the-variants.{Opening, Setting, Stepping, Ended}
+use mathlib.Core.Path.{refl}
 use denote.Ref.{now}
-use Rattle.driver.proofs.Laws.{ready-in}
-use mathlib.Core.Path.{_≡_, refl, sym, _∙_}
 use native.Mathlib.Omega.{arith}
 use borrow.Author.Needs.{needs}
+use Rattle.text.proofs.WrittenLaws.{written-none}
+use Rattle.settings.specs.declared.Stage.the-variants.{Opening, Setting, Stepping, Ended}
+use Rattle.driver.proofs.Laws.{in-stage, ready-in}
+use Rattle.driver.specs.Run.{standing}
 use Rattle.driver.proofs.obey.Statement.{statement}
 use Rattle.driver.proofs.obey.Tie as tie
-use Rattle.driver.proofs.obey.Reads as reads
-use Rattle.driver.proofs.obey.Lts as lts
-use Rattle.driver.proofs.opening.Reads as opening-reads
-use Rattle.driver.proofs.setting.Reads as setting-reads
-use Rattle.driver.proofs.stepping.Reads as stepping-reads
 
--- src/lib.rt:247:35
 enum-told : tie.Need-enum-told
 enum-told c = search needs
 
--- src/lib.rt:247:27
 opening-requires : tie.Need-opening-requires
 opening-requires c κs = search needs
 
--- src/lib.rt:248:35
 enum-told-2 : tie.Need-enum-told-2
 enum-told-2 c = search needs
 
--- src/lib.rt:248:27
 setting-requires : tie.Need-setting-requires
 setting-requires c κs = search needs
 
--- src/lib.rt:249:37
 enum-told-3 : tie.Need-enum-told-3
 enum-told-3 c = search needs
 
--- src/lib.rt:249:28
 stepping-requires : tie.Need-stepping-requires
 stepping-requires c κs = (c .before .before .before .before .before .before .before .pre .0, rw (c .before .before .enum-told3 .given .1) at (c .before .before .before .before .before .before .before .pre .2))
 
--- src/lib.rt:250:25
 enum-told-4 : tie.Need-enum-told-4
 enum-told-4 c = search needs
 
--- src/lib.rt:233:1
 same-length : tie.Need-same-length
 same-length c = search needs
 
--- src/lib.rt:233:1
 returns : tie.Need-returns
 returns c =
     let g = c .before .before .before .before .before .before .before .before .before .args in
     (in-stage (standing (g .run) (now (g .block)) (now (g .area))) Opening (c .before .before .before .before .enum-told .given .1) (g .c) (c .before .before .opening .ensures .0 _ _), c .before .before .opening .ensures .1 _ (c .before .before .before .before .before .before .before .before .before .pre .2))
 
--- src/lib.rt:233:1
 same-length-2 : tie.Need-same-length-2
 same-length-2 c = search needs
 
--- src/lib.rt:233:1
 same-length-3 : tie.Need-same-length-3
 same-length-3 c = search needs
 
--- src/lib.rt:233:1
 same-length-4 : tie.Need-same-length-4
 same-length-4 c = search needs
 
--- src/lib.rt:233:1
 returns-2 : tie.Need-returns-2
 returns-2 c =
     let g = c .before .before .before .before .before .before .before .before .before .before .before .before .before .before .before .args in
     (in-stage (standing (g .run) (now (g .block)) (now (g .area))) Setting (c .before .before .before .before .before .before .before .before .before .before .enum-told2 .given .1) (g .c) (c .before .before .before .before .before .before .setting .ensures .0), c .before .before .before .before .before .before .setting .ensures .1)
 
--- src/lib.rt:233:1
 same-length-5 : tie.Need-same-length-5
 same-length-5 c = search needs
 
--- src/lib.rt:233:1
 same-length-6 : tie.Need-same-length-6
 same-length-6 c = search needs
 
--- src/lib.rt:233:1
 returns-3 : tie.Need-returns-3
 returns-3 c =
     let g = c .before .before .before .before .before .before .before .before .before .before .before .before .args in
     (in-stage (standing (g .run) (now (g .block)) (now (g .area))) Stepping (c .before .before .before .before .before .before .before .enum-told3 .given .1) (g .c) (c .before .before .before .before .stepping .ensures .0 _), ready-in (c .before .before .before .before .stepping .result .run .stage) _ (c .before .before .before .before .stepping .ensures .1))
 
--- src/lib.rt:233:1
 returns-4 : tie.Need-returns-4
 returns-4 c =
     let g = c .before .before .before .before .before .args in

@@ -1,136 +1,99 @@
+use mathlib.Core.Path.{refl}
+use denote.Ref.{now}
+use native.Mathlib.Omega.{arith}
+use borrow.Author.Tests.{le-leb}
+use borrow.Author.Needs.{needs}
 use Rattle.calls.specs.Calls.{stepOn}
 use Rattle.reset.specs.Steps.{enter, send, recv, start}
-use borrow.Author.Tests.{le-leb}
-use Rattle.driver.proofs.Laws.{step-told}
 use Rattle.codec.specs.Num.{AreBytes}
-use denote.Ref.{now}
-use mathlib.Core.Path.{_≡_, refl, sym, _∙_}
-use native.Mathlib.Omega.{arith}
-use borrow.Author.Needs.{needs}
+use Rattle.driver.proofs.Laws.{step-told}
 use Rattle.driver.proofs.stepping.Statement.{statement}
 use Rattle.driver.proofs.stepping.Tie as tie
-use Rattle.driver.proofs.stepping.Reads as reads
-use Rattle.driver.proofs.stepping.Lts as lts
-use Rattle.driver.proofs.bad.Reads as bad-reads
-use Rattle.driver.proofs.made.Reads as made-reads
-use Rattle.receipts.proofs.recv.Reads as recv-reads
-use Rattle.receipts.proofs.start.Reads as start-reads
-use Rattle.steps.proofs.enter.Reads as enter-reads
-use Rattle.steps.proofs.send.Reads as send-reads
 
--- src/lib.rt:134:26
 enum-known-c : tie.Need-enum-known-c
 enum-known-c c = search needs
 
--- src/lib.rt:135:40
 cast-enter : tie.Need-cast-enter
 cast-enter c = search needs
 
--- src/lib.rt:135:17
 enter-requires : tie.Need-enter-requires
 enter-requires c κs = search needs
 
--- src/lib.rt:136:13
 made-requires : tie.Need-made-requires
 made-requires c κs = search needs
 
--- src/lib.rt:139:13
 enum-known-c-2 : tie.Need-enum-known-c-2
 enum-known-c-2 c = search needs
 
--- src/lib.rt:143:39
 cast-send : tie.Need-cast-send
 cast-send c = search needs
 
--- src/lib.rt:143:55
 cast-send-2 : tie.Need-cast-send-2
 cast-send-2 c = search needs
 
--- src/lib.rt:143:17
 send-requires : tie.Need-send-requires
 send-requires c κs = search needs
 
--- src/lib.rt:144:13
 made-requires-2 : tie.Need-made-requires-2
 made-requires-2 c κs = search needs
 
--- src/lib.rt:146:25
 enum-known-c-3 : tie.Need-enum-known-c-3
 enum-known-c-3 c = search needs
 
--- src/lib.rt:147:42
 cast-recv : tie.Need-cast-recv
 cast-recv c = search needs
 
--- src/lib.rt:147:58
 cast-recv-2 : tie.Need-cast-recv-2
 cast-recv-2 c = search needs
 
--- src/lib.rt:147:17
 recv-requires : tie.Need-recv-requires
 recv-requires c κs = search needs
 
--- src/lib.rt:148:13
 made-requires-3 : tie.Need-made-requires-3
 made-requires-3 c κs = search needs
 
--- src/lib.rt:150:26
 enum-known-c-4 : tie.Need-enum-known-c-4
 enum-known-c-4 c = search needs
 
--- src/lib.rt:151:43
 cast-start : tie.Need-cast-start
 cast-start c = search needs
 
--- src/lib.rt:151:17
 start-requires : tie.Need-start-requires
 start-requires c κs = search needs
 
--- src/lib.rt:152:13
 made-requires-4 : tie.Need-made-requires-4
 made-requires-4 c κs = search needs
 
--- src/lib.rt:154:44
 enum-told : tie.Need-enum-told
 enum-told c = search needs
 
--- src/lib.rt:154:40
 bad-requires : tie.Need-bad-requires
 bad-requires c κs = search needs
 
--- src/lib.rt:158:18
 enum-told-2 : tie.Need-enum-told-2
 enum-told-2 c = search needs
 
--- src/lib.rt:158:14
 bad-requires-2 : tie.Need-bad-requires-2
 bad-requires-2 c κs = search needs
 
--- src/lib.rt:163:18
 enum-told-3 : tie.Need-enum-told-3
 enum-told-3 c = search needs
 
--- src/lib.rt:163:14
 bad-requires-3 : tie.Need-bad-requires-3
 bad-requires-3 c κs = search needs
 
--- src/lib.rt:164:29
 enum-told-4 : tie.Need-enum-told-4
 enum-told-4 c = search needs
 
--- src/lib.rt:164:25
 bad-requires-4 : tie.Need-bad-requires-4
 bad-requires-4 c κs = search needs
 
--- src/lib.rt:128:1
 same-length : tie.Need-same-length
 same-length c = search needs
 
--- src/lib.rt:128:1
 same-length-2 : tie.Need-same-length-2
 same-length-2 c = search needs
 
--- src/lib.rt:128:1
 returns : tie.Need-returns
 returns c =
     let g = c .before .before .before .before .before .before .before .before .before .before .before .before .before .args in
@@ -139,15 +102,12 @@ returns c =
     let d = step-told (enter (x .0) (x .1 .0)) (now (g .area)) _ _ y (c .before .before .before .before .before .before .before .before .before .before .before .before .before .pre .1) (le-leb (x .1 .0) 4294967295 (omega arith)) (c .before .before .before .before .before .before .enter .ensures) in
     ((λ b. rw (c .before .before .before .before .before .before .before .before .before .c .given .1) (c .before .before .made .ensures b _ (stepOn (enter (x .0) (x .1 .0)) (now (g .area))) (d .0) (d .1))), d .2)
 
--- src/lib.rt:128:1
 same-length-3 : tie.Need-same-length-3
 same-length-3 c = search needs
 
--- src/lib.rt:128:1
 same-length-4 : tie.Need-same-length-4
 same-length-4 c = search needs
 
--- src/lib.rt:128:1
 returns-2 : tie.Need-returns-2
 returns-2 c =
     let g = c .before .before .before .before .before .before .before .before .before .before .before .before .before .args in
@@ -156,15 +116,12 @@ returns-2 c =
     let d = step-told (send (x .0) (x .1 .0) (x .1 .1 .0)) (now (g .area)) _ _ y (c .before .before .before .before .before .before .before .before .before .before .before .before .before .pre .1) (le-leb (x .1 .1 .0) 4294967295 (omega arith)) (c .before .before .before .before .before .before .send .ensures) in
     ((λ b. rw (c .before .before .before .before .before .before .before .before .before .c2 .given .1) (c .before .before .made2 .ensures b _ (stepOn (send (x .0) (x .1 .0) (x .1 .1 .0)) (now (g .area))) (d .0) (d .1))), d .2)
 
--- src/lib.rt:128:1
 same-length-5 : tie.Need-same-length-5
 same-length-5 c = search needs
 
--- src/lib.rt:128:1
 same-length-6 : tie.Need-same-length-6
 same-length-6 c = search needs
 
--- src/lib.rt:128:1
 returns-3 : tie.Need-returns-3
 returns-3 c =
     let g = c .before .before .before .before .before .before .before .before .before .before .before .before .before .args in
@@ -173,15 +130,12 @@ returns-3 c =
     let d = step-told (recv (x .0) (x .1 .0)) (now (g .area)) _ _ y (c .before .before .before .before .before .before .before .before .before .before .before .before .before .pre .1) refl (c .before .before .before .before .before .before .recv .ensures) in
     ((λ b. rw (c .before .before .before .before .before .before .before .before .before .c3 .given .1) (c .before .before .made3 .ensures b _ (stepOn (recv (x .0) (x .1 .0)) (now (g .area))) (d .0) (d .1))), d .2)
 
--- src/lib.rt:128:1
 same-length-7 : tie.Need-same-length-7
 same-length-7 c = search needs
 
--- src/lib.rt:128:1
 same-length-8 : tie.Need-same-length-8
 same-length-8 c = search needs
 
--- src/lib.rt:128:1
 returns-4 : tie.Need-returns-4
 returns-4 c =
     let g = c .before .before .before .before .before .before .before .before .before .before .before .before .before .args in
@@ -190,35 +144,27 @@ returns-4 c =
     let d = step-told (start (x .0)) (now (g .area)) _ _ y (c .before .before .before .before .before .before .before .before .before .before .before .before .before .pre .1) refl (c .before .before .before .before .before .before .start .ensures) in
     ((λ b. rw (c .before .before .before .before .before .before .before .before .before .c4 .given .1) (c .before .before .made4 .ensures b _ (stepOn (start (x .0)) (now (g .area))) (d .0) (d .1))), d .2)
 
--- src/lib.rt:128:1
 same-length-9 : tie.Need-same-length-9
 same-length-9 c = search needs
 
--- src/lib.rt:128:1
 returns-5 : tie.Need-returns-5
 returns-5 c = ((λ x. rw (c .before .before .before .before .enum-told .given .1) (c .before .before .bad .ensures x _)), c .before .before .before .before .before .before .before .before .pre .1)
 
--- src/lib.rt:128:1
 same-length-10 : tie.Need-same-length-10
 same-length-10 c = search needs
 
--- src/lib.rt:128:1
 returns-6 : tie.Need-returns-6
 returns-6 c = ((λ x. rw (c .before .before .before .before .enum-told2 .given .1) (c .before .before .bad2 .ensures x _)), c .before .before .before .before .before .before .before .before .pre .1)
 
--- src/lib.rt:128:1
 same-length-11 : tie.Need-same-length-11
 same-length-11 c = search needs
 
--- src/lib.rt:128:1
 returns-7 : tie.Need-returns-7
 returns-7 c = ((λ x. rw (c .before .before .before .before .enum-told3 .given .1) (c .before .before .bad3 .ensures x _)), c .before .before .before .before .before .before .before .before .pre .1)
 
--- src/lib.rt:128:1
 same-length-12 : tie.Need-same-length-12
 same-length-12 c = search needs
 
--- src/lib.rt:128:1
 returns-8 : tie.Need-returns-8
 returns-8 c = ((λ x. rw (c .before .before .before .before .enum-told4 .given .1) (c .before .before .bad4 .ensures x _)), c .before .before .before .before .before .before .before .before .pre .1)
 

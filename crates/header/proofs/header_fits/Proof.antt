@@ -1,5 +1,5 @@
-use Rattle.header.specs.Header.{headerFits}
 use borrow.Author.Needs.{needs}
+use Rattle.header.specs.Header.{headerFits}
 use Rattle.header.proofs.header_fits.Statement.{statement}
 use Rattle.header.proofs.header_fits.Tie as tie
 

@@ -1,8 +1,8 @@
-use mathlib.Core.Path.{_≡_, refl, _∙_, sym, ap}
+use mathlib.Core.Path.{refl, _∙_, sym}
 use borrow.Author.Tests.{not-true, not-false}
+use borrow.Author.Needs.{needs}
 use Rattle.header.specs.Header.{readLimits}
 use Rattle.header.proofs.Laws.{well-made-length}
-use borrow.Author.Needs.{needs}
 use Rattle.header.proofs.read_limits.Statement.{statement}
 use Rattle.header.proofs.read_limits.Tie as tie
 

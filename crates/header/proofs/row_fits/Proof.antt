@@ -1,7 +1,7 @@
 use mathlib.Core.Path.{refl}
+use borrow.Author.Needs.{needs}
 use Rattle.codec.specs.Every.{every}
 use Rattle.header.specs.Header.{rowFits}
-use borrow.Author.Needs.{needs}
 use Rattle.header.proofs.row_fits.Statement.{statement}
 use Rattle.header.proofs.row_fits.Tie as tie
 

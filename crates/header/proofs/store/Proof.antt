@@ -1,10 +1,11 @@
-use Prim.Native.Nat.{ℕ, _+_, _*_, _-_, _≤_, _<_}
-use mathlib.Core.Path.{_≡_, refl, _∙_, sym, ap}
-use native.Mathlib.Omega.{arith}
+use Prim.Native.Nat.{ℕ, _-_}
+use mathlib.Core.Path.{_≡_, refl, _∙_, ap}
 use mathlib.Core.List.{List, [], _∷_}
 use denote.Ref.{now}
+use native.Mathlib.Omega.{arith}
 use lib.ListN.{length, take}
 use lib.Seq.{take-at}
+use borrow.Author.Needs.{needs}
 use Rattle.codec.specs.Num.{bytesOf, numsOf}
 use Rattle.codec.specs.Every.{blank}
 use Rattle.codec.specs.Check.{sealOf}
@@ -13,7 +14,6 @@ use Rattle.codec.proofs.BlankLaws.{blank-length}
 use Rattle.codec.proofs.SpliceLaws.{first, next}
 use Rattle.header.specs.Header.{tableOf, headerBody, imageHeader}
 use Rattle.header.proofs.Laws.{table-length, body-length}
-use borrow.Author.Needs.{needs}
 use Rattle.header.proofs.store.Statement.{statement}
 use Rattle.header.proofs.store.Tie as tie
 

@@ -1,9 +1,8 @@
-use native.Mathlib.Omega.{arith}
 use mathlib.Core.List.{[], _∷_}
 use denote.Ref.{now}
-use lib.ListN.{length-set}
-use Rattle.codec.proofs.Stores.{stored}
+use native.Mathlib.Omega.{arith}
 use borrow.Author.Needs.{needs}
+use Rattle.codec.proofs.Stores.{stored}
 use Rattle.header.proofs.store_front.Statement.{statement}
 use Rattle.header.proofs.store_front.Tie as tie
 

@@ -1,8 +1,8 @@
-use Prim.Native.Nat.{ℕ, _+_, _*_, _-_, _/_, _%_, _≤_, _<_}
+use Prim.Native.Nat.{ℕ, _-_, _/_, _%_, _≤_}
 use mathlib.Core.Path.{_≡_, refl, _∙_, sym, ap}
-use native.Mathlib.Omega.{arith}
 use mathlib.Core.List.{List, []}
 use denote.Ref.{now}
+use native.Mathlib.Omega.{arith}
 use lib.ListN.{length, getD, length-set}
 use Rattle.codec.specs.Splice.{splice}
 use Rattle.codec.specs.Rows.{upto}

@@ -1,6 +1,6 @@
 use borrow.Author.Tests.{eq-eqb, ne-eqb}
-use Rattle.header.specs.Header.{wellMadeHeader}
 use borrow.Author.Needs.{needs}
+use Rattle.header.specs.Header.{wellMadeHeader}
 use Rattle.header.proofs.well_made.Statement.{statement}
 use Rattle.header.proofs.well_made.Tie as tie
 

@@ -1,10 +1,10 @@
-use native.Mathlib.Omega.{arith}
 use mathlib.Core.Path.{ap, _∙_}
 use denote.Ref.{now}
+use native.Mathlib.Omega.{arith}
+use borrow.Author.Needs.{needs}
 use Rattle.archive.specs.declared.Counted.{Counted}
 use Rattle.host.specs.Numbers.{countedNumber}
 use Rattle.host.proofs.Archives.{counted-small}
-use borrow.Author.Needs.{needs}
 use Rattle.host.proofs.melontime_archive_records.Statement.{statement}
 use Rattle.host.proofs.melontime_archive_records.Tie as tie
 

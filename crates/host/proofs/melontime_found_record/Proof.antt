@@ -1,10 +1,10 @@
 use mathlib.Core.Path.{refl, sym, _∙_}
+use denote.Ref.{now}
 use native.Mathlib.Omega.{arith}
 use borrow.Author.Tests.{eq-eqb, ne-eqb, lt-ltb, le-ltb}
-use denote.Ref.{now}
+use borrow.Author.Needs.{needs}
 use Rattle.host.specs.Archives.{recordFound}
 use Rattle.host.proofs.Archives.{found-length, found-is}
-use borrow.Author.Needs.{needs}
 use Rattle.host.proofs.melontime_found_record.Statement.{statement}
 use Rattle.host.proofs.melontime_found_record.Tie as tie
 

@@ -1,7 +1,7 @@
 use mathlib.Core.Path.{ap, _∙_}
+use borrow.Author.Needs.{needs}
 use Rattle.entries.specs.declared.EntriesRead.{EntriesRead}
 use Rattle.host.specs.Numbers.{blockNumber}
-use borrow.Author.Needs.{needs}
 use Rattle.host.proofs.melontime_read_entries.Statement.{statement}
 use Rattle.host.proofs.melontime_read_entries.Tie as tie
 

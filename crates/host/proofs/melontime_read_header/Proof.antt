@@ -1,10 +1,10 @@
 use mathlib.Core.Path.{refl, sym, _∙_}
+use denote.Ref.{now}
 use native.Mathlib.Omega.{arith}
 use borrow.Author.Tests.{not-true, not-false, lt-ltb, le-ltb}
-use denote.Ref.{now}
+use borrow.Author.Needs.{needs}
 use Rattle.header.proofs.Laws.{well-made-length}
 use Rattle.host.specs.Headers.{headerFields}
-use borrow.Author.Needs.{needs}
 use Rattle.host.proofs.melontime_read_header.Statement.{statement}
 use Rattle.host.proofs.melontime_read_header.Tie as tie
 

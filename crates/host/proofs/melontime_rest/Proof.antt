@@ -1,7 +1,7 @@
 use mathlib.Core.Path.{ap, _∙_}
+use borrow.Author.Needs.{needs}
 use Rattle.calls.specs.Calls.{RestAnswer}
 use Rattle.host.specs.Numbers.{restNumber}
-use borrow.Author.Needs.{needs}
 use Rattle.host.proofs.melontime_rest.Statement.{statement}
 use Rattle.host.proofs.melontime_rest.Tie as tie
 

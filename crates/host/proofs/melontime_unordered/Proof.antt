@@ -1,8 +1,8 @@
-use native.Mathlib.Omega.{arith}
 use denote.Ref.{now}
+use native.Mathlib.Omega.{arith}
 use lib.ListN.{length}
-use Rattle.host.proofs.Archives.{listed-small, listing}
 use borrow.Author.Needs.{needs}
+use Rattle.host.proofs.Archives.{listed-small, listing}
 use Rattle.host.proofs.melontime_unordered.Statement.{statement}
 use Rattle.host.proofs.melontime_unordered.Tie as tie
 

@@ -1,7 +1,7 @@
 use mathlib.Core.Path.{ap, _∙_}
+use borrow.Author.Needs.{needs}
 use Rattle.verdict.specs.declared.Compared.{Compared}
 use Rattle.host.specs.Numbers.{verdictNumber}
-use borrow.Author.Needs.{needs}
 use Rattle.host.proofs.melontime_verdict.Statement.{statement}
 use Rattle.host.proofs.melontime_verdict.Tie as tie
 

@@ -1,10 +1,10 @@
 use mathlib.Core.Path.{refl, sym, _∙_}
+use denote.Ref.{now}
 use native.Mathlib.Omega.{arith}
 use borrow.Author.Tests.{not-true, not-false}
-use denote.Ref.{now}
+use borrow.Author.Needs.{needs}
 use Rattle.host.specs.Headers.{headerWritten}
 use Rattle.host.proofs.Headers.{fit-parts}
-use borrow.Author.Needs.{needs}
 use Rattle.host.proofs.melontime_write_header.Statement.{statement}
 use Rattle.host.proofs.melontime_write_header.Tie as tie
 
@@ -24,8 +24,8 @@ cast-header-of-2 c = omega (arith, fit-parts _ _ (now (c .before .before .before
 header-of-requires : tie.Need-header-of-requires
 header-of-requires c κs = fit-parts _ _ (now (c .before .before .before .before .before .args .allowances)) (now (c .before .before .before .before .before .args .limits)) (sym (c .before .fields-fit .ensures) ∙ not-false _ (c .if1 .left)) .0
 
-table-of-requires : tie.Need-table-of-requires
-table-of-requires c κs = fit-parts _ _ (now (c .before .before .before .before .before .before .args .allowances)) (now (c .before .before .before .before .before .before .args .limits)) (sym (c .before .before .fields-fit .ensures) ∙ not-false _ (c .before .if1 .left)) .1
+table-at-requires : tie.Need-table-at-requires
+table-at-requires c κs = omega (arith, fit-parts _ _ (now (c .before .before .before .before .before .before .args .allowances)) (now (c .before .before .before .before .before .before .args .limits)) (sym (c .before .before .fields-fit .ensures) ∙ not-false _ (c .before .if1 .left)) .1)
 
 write-requires : tie.Need-write-requires
 write-requires c κs = search needs
@@ -39,7 +39,7 @@ same-length c = search needs
 returns-2 : tie.Need-returns-2
 unfolding headerWritten
 returns-2 c =
-    rw (sym (c .before .before .before .before .before .before .before .fields-fit .ensures) ∙ not-false _ (c .before .before .before .before .before .before .if1 .left), ← c .before .before .before .before .before .header-of .ensures, ← c .before .before .before .before .table-of .ensures) (c .before .before .write .ensures)
+    rw (sym (c .before .before .before .before .before .before .before .fields-fit .ensures) ∙ not-false _ (c .before .before .before .before .before .before .if1 .left), ← c .before .before .before .before .before .header-of .ensures, ← c .before .before .before .before .table-at .ensures) (c .before .before .write .ensures)
 
 pub melontime-write-header-spec : {M : Type 1} → statement M
 melontime-write-header-spec =
@@ -50,7 +50,7 @@ melontime-write-header-spec =
     cast-header-of
     cast-header-of-2
     header-of-requires
-    table-of-requires
+    table-at-requires
     write-requires
     cast-result
     same-length

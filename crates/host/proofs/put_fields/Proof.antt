@@ -1,8 +1,8 @@
-use native.Mathlib.Omega.{arith}
 use denote.Ref.{now}
+use native.Mathlib.Omega.{arith}
+use borrow.Author.Needs.{needs}
 use Rattle.codec.specs.Num.{AreBytes}
 use Rattle.host.proofs.Headers.{fields-put}
-use borrow.Author.Needs.{needs}
 use Rattle.host.proofs.put_fields.Statement.{statement}
 use Rattle.host.proofs.put_fields.Tie as tie
 

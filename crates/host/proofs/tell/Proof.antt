@@ -1,7 +1,7 @@
 use mathlib.Core.Path.{sym, _∙_}
 use denote.Ref.{now}
-use Rattle.host.proofs.Laws.{entered-told}
 use borrow.Author.Needs.{needs}
+use Rattle.host.proofs.Laws.{entered-told}
 use Rattle.host.proofs.tell.Statement.{statement}
 use Rattle.host.proofs.tell.Tie as tie
 

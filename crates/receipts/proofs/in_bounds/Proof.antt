@@ -1,15 +1,9 @@
-use Prim.Native.Nat.{ℕ, _+_, _*_, _-_, _≤_, _<_}
-use mathlib.Core.Path.{_≡_, refl, _∙_, sym, ap, ap₂}
+use Prim.Native.Nat.{_+_, _-_}
+use mathlib.Core.Path.{_≡_, _∙_, ap}
 use native.Mathlib.Omega.{arith}
-use mathlib.Core.List.{List, [], _∷_, _++_}
-use lib.ListN.{length, getD}
+use mathlib.Core.List.{_++_}
+use lib.ListN.{length}
 use denote.Ref.{now}
-use Rattle.codec.specs.Num.{AreBytes}
-use Rattle.reset.specs.Config.{Config}
-use Rattle.reset.specs.Clock.{vector}
-use Rattle.reset.specs.State.{Item, message, resetReq, resetDone, Station, State, stationAt, linkAt, setLink}
-use Rattle.area.specs.Layout.{image, configAt, stateAt, test}
-use borrow.Author.Tests.{not-true, not-false}
 use mathlib.Core.Bool.{Bool, _&&_}
 use lib.Dec.{leb}
 use lib.ListN.{length-append}

@@ -1,15 +1,13 @@
-use Prim.Native.Nat.{ℕ, _+_, _*_, _-_, _≤_, _<_}
-use mathlib.Core.Path.{_≡_, refl, _∙_, sym, ap, ap₂}
+use Prim.Native.Nat.{ℕ, _-_, _<_}
+use mathlib.Core.Path.{_≡_, _∙_, sym, ap}
 use native.Mathlib.Omega.{arith}
-use mathlib.Core.List.{List, [], _∷_, _++_}
-use lib.ListN.{length, getD}
+use mathlib.Core.List.{List}
 use denote.Ref.{now}
 use Rattle.codec.specs.Num.{AreBytes}
 use Rattle.reset.specs.Config.{Config}
 use Rattle.reset.specs.Clock.{vector}
-use Rattle.reset.specs.State.{Item, message, resetReq, resetDone, Station, State, stationAt, linkAt, setLink}
-use Rattle.area.specs.Layout.{image, configAt, stateAt, test}
-use borrow.Author.Tests.{not-true, not-false}
+use Rattle.reset.specs.State.{Item, resetReq, resetDone, Station, stationAt, linkAt}
+use Rattle.area.specs.Layout.{configAt, stateAt}
 use Rattle.reset.specs.Steps.{withReq, withDone, bounded, doMark}
 use Rattle.station.specs.View.{stationView}
 use Rattle.controls.proofs.Laws.{control-req, control-done}

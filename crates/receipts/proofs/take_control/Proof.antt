@@ -1,14 +1,13 @@
-use Prim.Native.Nat.{ℕ, _+_, _*_, _-_, _≤_, _<_}
-use mathlib.Core.Path.{_≡_, refl, _∙_, sym, ap, ap₂}
+use Prim.Native.Nat.{ℕ, _-_, _<_}
+use mathlib.Core.Path.{refl, _∙_, sym, ap}
 use native.Mathlib.Omega.{arith}
-use mathlib.Core.List.{List, [], _∷_, _++_}
+use mathlib.Core.List.{List, []}
 use lib.ListN.{length, getD}
 use denote.Ref.{now}
 use Rattle.codec.specs.Num.{AreBytes}
-use Rattle.reset.specs.Config.{Config}
 use Rattle.reset.specs.Clock.{vector}
-use Rattle.reset.specs.State.{Item, message, resetReq, resetDone, Station, State, stationAt, linkAt, setLink}
-use Rattle.area.specs.Layout.{image, configAt, stateAt, test}
+use Rattle.reset.specs.State.{Item, linkAt, setLink}
+use Rattle.area.specs.Layout.{configAt, stateAt}
 use borrow.Author.Tests.{not-true, not-false}
 use Rattle.area.proofs.Parts.{image-length}
 use Rattle.stepped.proofs.Read.{long, is-image}

@@ -1,39 +1,27 @@
-use lib.ListN.{length}
 use Prim.Native.Nat.{_≤_}
-use Rattle.session.proofs.Laws.{stands, end-none, end-line}
+use denote.Ref.{now}
+use native.Mathlib.Omega.{arith}
+use lib.ListN.{length}
+use borrow.Author.Needs.{needs}
 use Rattle.driver.specs.Run.{standing}
 use Rattle.lines.proofs.KeptLaws.{kept-empty}
 use Rattle.text.proofs.WrittenLaws.{written-more}
-use mathlib.Core.List.{[]}
-use denote.Ref.{now}
-use mathlib.Core.Path.{_≡_, refl, sym, _∙_}
-use native.Mathlib.Omega.{arith}
-use borrow.Author.Needs.{needs}
+use Rattle.session.proofs.Laws.{stands, end-none, end-line}
 use Rattle.session.proofs.finish.Statement.{statement}
 use Rattle.session.proofs.finish.Tie as tie
-use Rattle.session.proofs.finish.Reads as reads
-use Rattle.session.proofs.finish.Lts as lts
-use Rattle.driver.proofs.close.Reads as close-reads
-use Rattle.driver.proofs.obey.Reads as obey-reads
-use Rattle.lines.proofs.said.Reads as said-reads
 
--- src/lib.rt:75:13
 close-requires : tie.Need-close-requires
 close-requires c κs = search needs
 
--- src/lib.rt:76:9
 same-length : tie.Need-same-length
 same-length c = search needs
 
--- src/lib.rt:76:9
 same-length-2 : tie.Need-same-length-2
 same-length-2 c = search needs
 
--- src/lib.rt:76:9
 same-length-3 : tie.Need-same-length-3
 same-length-3 c = search needs
 
--- src/lib.rt:76:9
 returns : tie.Need-returns
 returns c =
     let g = c .before .before .before .before .before .before .before .before .before .before .before .before .before .before .before .args in
@@ -41,31 +29,24 @@ returns c =
     let n = o .short in
     ((λ t k. rw (kept-empty _ _ t k .0 (c .before .before .before .before .before .before .before .before .before .before .if1 .taken), end-none (standing (g .run) (now (g .block)) (now (g .area)))) (o .text)), omega arith)
 
--- src/lib.rt:78:57
 said-requires : tie.Need-said-requires
 said-requires c κs = search needs
 
--- src/lib.rt:78:9
 obey-requires : tie.Need-obey-requires
 obey-requires c κs = search needs
 
--- src/lib.rt:80:9
 close-requires-2 : tie.Need-close-requires-2
 close-requires-2 c κs = search needs
 
--- src/lib.rt:61:1
 same-length-4 : tie.Need-same-length-4
 same-length-4 c = search needs
 
--- src/lib.rt:61:1
 same-length-5 : tie.Need-same-length-5
 same-length-5 c = search needs
 
--- src/lib.rt:61:1
 same-length-6 : tie.Need-same-length-6
 same-length-6 c = search needs
 
--- src/lib.rt:61:1
 returns-2 : tie.Need-returns-2
 returns-2 c =
     let g = c .before .before .before .before .before .before .before .before .before .before .before .before .before .before .before .before .before .before .before .before .before .before .before .before .before .before .before .args in

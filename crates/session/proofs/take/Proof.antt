@@ -1,33 +1,24 @@
-use Rattle.session.proofs.Laws.{part-line, stands, line-taken}
+use mathlib.Core.List.{[], _++_}
+use mathlib.Core.Path.{sym, _∙_}
+use denote.Ref.{now}
+use native.Mathlib.Omega.{arith}
+use lib.ListN.{drop}
+use borrow.Author.Tests.{not-true, not-false}
+use borrow.Author.Needs.{needs}
 use Rattle.text.proofs.WrittenLaws.{written-none}
 use Rattle.driver.specs.Run.{standing, obeyed}
 use Rattle.lines.proofs.KeptLaws.{kept-none}
 use Rattle.lines.specs.Lines.{before}
-use borrow.Author.Tests.{not-true, not-false}
-use Prim.Native.Nat.{ℕ}
-use lib.ListN.{drop}
-use mathlib.Core.List.{List, [], _++_}
-use denote.Ref.{now}
-use mathlib.Core.Path.{_≡_, refl, sym, _∙_}
-use native.Mathlib.Omega.{arith}
-use borrow.Author.Needs.{needs}
+use Rattle.session.proofs.Laws.{part-line, stands, line-taken}
 use Rattle.session.proofs.take.Statement.{statement}
 use Rattle.session.proofs.take.Tie as tie
-use Rattle.session.proofs.take.Reads as reads
-use Rattle.session.proofs.take.Lts as lts
-use Rattle.driver.proofs.obey.Reads as obey-reads
-use Rattle.lines.proofs.fill.Reads as fill-reads
-use Rattle.lines.proofs.said.Reads as said-reads
 
--- src/lib.rt:38:9
 fill-requires : tie.Need-fill-requires
 fill-requires c κs = search needs
 
--- src/lib.rt:43:9
 same-length : tie.Need-same-length
 same-length c = search needs
 
--- src/lib.rt:43:9
 returns : tie.Need-returns
 returns c =
     let g = c .before .before .before .before .before .before .before .before .before .before .args in
@@ -45,31 +36,24 @@ returns c =
       c .before .before .before .before .before .before .before .before .before .before .pre .5,
     )
 
--- src/lib.rt:50:57
 said-requires : tie.Need-said-requires
 said-requires c κs = search needs
 
--- src/lib.rt:50:9
 obey-requires : tie.Need-obey-requires
 obey-requires c κs = search needs
 
--- src/lib.rt:23:1
 same-length-2 : tie.Need-same-length-2
 same-length-2 c = search needs
 
--- src/lib.rt:23:1
 same-length-3 : tie.Need-same-length-3
 same-length-3 c = search needs
 
--- src/lib.rt:23:1
 same-length-4 : tie.Need-same-length-4
 same-length-4 c = search needs
 
--- src/lib.rt:23:1
 same-length-5 : tie.Need-same-length-5
 same-length-5 c = search needs
 
--- src/lib.rt:23:1
 returns-2 : tie.Need-returns-2
 returns-2 c =
     let g = c .before .before .before .before .before .before .before .before .before .before .before .before .before .before .before .before .before .before .before .before .before .before .before .args in

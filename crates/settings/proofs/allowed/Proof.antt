@@ -2,22 +2,16 @@ use borrow.Author.Tests.{lt-ltb, le-ltb}
 use borrow.Author.Needs.{needs}
 use Rattle.settings.proofs.allowed.Statement.{statement}
 use Rattle.settings.proofs.allowed.Tie as tie
-use Rattle.settings.proofs.allowed.Reads as reads
-use Rattle.settings.proofs.allowed.Lts as lts
 
--- src/lib.rt:87:9
 mul-allowances : tie.Need-mul-allowances
 mul-allowances c = search needs
 
--- src/lib.rt:87:9
 array-write-allowances : tie.Need-array-write-allowances
 array-write-allowances c = search needs
 
--- src/lib.rt:81:1
 returns : tie.Need-returns
 returns c = rw (lt-ltb _ 8 (c .if1 .taken))
 
--- src/lib.rt:81:1
 returns-2 : tie.Need-returns-2
 returns-2 c = rw (le-ltb _ 8 (c .if1 .left))
 

@@ -1,49 +1,39 @@
 use Prim.Native.Nat.{_+_, _*_}
 use denote.Ref.{now}
-use Rattle.settings.specs.Settings.{limitSet}
-use lib.Seq.{set-split}
-use borrow.Author.Tests.{lt-ltb, le-ltb}
 use native.Mathlib.Numerals.{add-one}
 use native.Mathlib.Omega.{arith}
+use lib.Seq.{set-split}
+use borrow.Author.Tests.{lt-ltb, le-ltb}
 use borrow.Author.Needs.{needs}
+use Rattle.settings.specs.Settings.{limitSet}
 use Rattle.settings.proofs.limit.Statement.{statement}
 use Rattle.settings.proofs.limit.Tie as tie
-use Rattle.settings.proofs.limit.Reads as reads
-use Rattle.settings.proofs.limit.Lts as lts
 
--- src/lib.rt:72:24
 mul-block : tie.Need-mul-block
 mul-block c = search needs
 
--- src/lib.rt:72:19
 add-block : tie.Need-add-block
 add-block c = search needs
 
--- src/lib.rt:72:19
 add-block-2 : tie.Need-add-block-2
 add-block-2 c = search needs
 
--- src/lib.rt:72:13
 slice-write-block : tie.Need-slice-write-block
 slice-write-block c = search needs
 
--- src/lib.rt:64:1
 same-length : tie.Need-same-length
 same-length c = search needs
 
--- src/lib.rt:64:1
 returns : tie.Need-returns
 unfolding limitSet
 returns c =
     let a = c .before .before .args in
     rw (lt-ltb _ 8 (c .before .if1 .taken), lt-ltb _ 8 (c .if2 .taken), set-split (now (a .block)) (32 + 8 * a .from + a .to) (a .limit) (omega arith), add-one)
 
--- src/lib.rt:64:1
 returns-2 : tie.Need-returns-2
 unfolding limitSet
 returns-2 c = rw (lt-ltb _ 8 (c .before .if1 .taken), le-ltb _ 8 (c .if2 .left))
 
--- src/lib.rt:64:1
 returns-3 : tie.Need-returns-3
 unfolding limitSet
 returns-3 c = rw (le-ltb _ 8 (c .if1 .left))

@@ -1,23 +1,16 @@
 use borrow.Author.Needs.{needs}
 use Rattle.settings.proofs.link.Statement.{statement}
 use Rattle.settings.proofs.link.Tie as tie
-use Rattle.settings.proofs.link.Reads as reads
-use Rattle.settings.proofs.link.Lts as lts
-use Rattle.settings.proofs.limit.Reads as limit-reads
 
--- src/lib.rt:111:5
 limit-requires : tie.Need-limit-requires
 limit-requires c κs = search needs
 
--- src/lib.rt:112:5
 limit-requires-2 : tie.Need-limit-requires-2
 limit-requires-2 c κs = search needs
 
--- src/lib.rt:107:1
 same-length : tie.Need-same-length
 same-length c = search needs
 
--- src/lib.rt:107:1
 returns : tie.Need-returns
 returns c = rw (c .before .before .limit2 .ensures, c .before .before .before .before .before .before .limit .ensures)
 

@@ -1,5 +1,5 @@
-use mathlib.Core.Path.{_≡_, refl, _∙_, sym, ap}
-use borrow.Author.Tests.{not-true, not-false, le-leb, lt-leb, eq-eqb, ne-eqb}
+use mathlib.Core.Path.{_∙_, sym}
+use borrow.Author.Tests.{not-true, not-false, le-leb, lt-leb}
 use Rattle.steps.specs.Sending.{sendRefusal}
 use borrow.Author.Needs.{needs}
 use Rattle.steps.proofs.send_refusal.Statement.{statement}

@@ -6,7 +6,7 @@ use Rattle.clock.specs.Order.{verdictOf}
 use Rattle.record.specs.Record.{parseRecord}
 use Rattle.record.specs.declared.Record.{Record}
 use Rattle.verdict.specs.declared.Compared.the-variants.{Ordered, Refused}
-use mathlib.Core.Path.{_≡_, refl, _∙_, sym, ap}
+use mathlib.Core.Path.{_≡_, _∙_, sym}
 use native.Mathlib.Omega.{arith}
 use borrow.Author.Tests.{not-true, not-false, eq-eqb, ne-eqb}
 use denote.Ref.{now}
