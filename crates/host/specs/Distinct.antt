@@ -25,7 +25,8 @@ use Rattle.reset.specs.State.{Mode, normal, mute, standBy, Item, message, reset
 use Rattle.reset.specs.Steps.{Step, enter, send, recv, start, Answer, refused, entry, modeAfter, Outcome, guard, bounded, inBounds, receive, step}
 use Rattle.area.specs.Layout.{configAt, stateAt, test}
 use Rattle.calls.specs.Calls.{stepOn, imaged, RestAnswer, yes, no, restOn, restRefused}
-use Rattle.host.specs.Numbers.{modeNumber, stepNumber, restNumber, orderNumber, verdictNumber, countedNumber, listedNumber}
+use Rattle.station.specs.Image.{modeByte}
+use Rattle.host.specs.Numbers.{stepNumber, restNumber, orderNumber, verdictNumber, countedNumber, listedNumber}
 
 -- a refusal's number is below 10
 abbrev pub Low : Answer → Type 0
@@ -75,7 +76,7 @@ step-low p a = go (test a)
     go true = stepped (configAt a) (stateAt a) p
     go false = omega arith
 
-modes : (m n : Mode) (p q : ℕ) → 1000 + (4 * p + modeNumber m) ≡ 1000 + (4 * q + modeNumber n) → (m ≡ n) × (p ≡ q)
+modes : (m n : Mode) (p q : ℕ) → 1000 + (4 * p + modeByte m) ≡ 1000 + (4 * q + modeByte n) → (m ≡ n) × (p ≡ q)
 modes normal normal p q e = (refl, omega arith)
 modes mute mute p q e = (refl, omega arith)
 modes standBy standBy p q e = (refl, omega arith)

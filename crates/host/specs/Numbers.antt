@@ -10,26 +10,19 @@ use Rattle.archive.specs.declared.Counted.{Counted}
 use Rattle.archive.specs.declared.Counted.the-variants.{Records, Refused as NoArchive}
 use Rattle.concurrent.specs.declared.Listed.{Listed}
 use Rattle.concurrent.specs.declared.Listed.the-variants.{Count, Refused as NoList}
-use Rattle.reset.specs.State.{Mode, normal, mute, standBy}
 use Rattle.reset.specs.Steps.{Answer, refused, entry, modeAfter}
 use Rattle.calls.specs.Calls.{RestAnswer, yes, no, restRefused}
-use Rattle.station.specs.declared.Mode.{Mode as CodeMode}
-use Rattle.station.specs.declared.Mode.the-variants.{Normal, Mute, StandBy}
+use Rattle.station.specs.Image.{modeByte}
+use Rattle.station.specs.View.{modeView}
 use Rattle.stepped.specs.declared.Answer.{Answer as CodeAnswer}
 use Rattle.stepped.specs.declared.Answer.the-variants.{Refused as NotDone, Entered, InMode}
 use mathlib.Core.Bool.{Bool, true, false}
 
--- 0 normal, 1 mute, 2 stand-by
-abbrev pub modeNumber : Mode → ℕ
-modeNumber normal = 0
-modeNumber mute = 1
-modeNumber standBy = 2
-
--- a step: 100 for an accepted entry, 1,000 + 4 × phase + mode for the mode and phase after
+-- a step: 100 for an accepted entry, 1,000 + 4 × phase + mode for the mode and phase after; the mode is 0 normal, 1 mute, 2 stand-by
 abbrev pub stepNumber : Answer → ℕ
 stepNumber (refused k) = k
 stepNumber (entry e) = 100
-stepNumber (modeAfter i m p) = 1000 + (4 * p + modeNumber m)
+stepNumber (modeAfter i m p) = 1000 + (4 * p + modeByte m)
 
 -- rest: 100 yes, 101 no
 abbrev pub restNumber : RestAnswer → ℕ
@@ -63,15 +56,10 @@ listedNumber (Count n) = 1000 + n
 listedNumber (NoList k) = k
 
 -- the same numbers, by the answer as the code has it
-abbrev pub codeModeNumber : CodeMode → ℕ
-codeModeNumber Normal = 0
-codeModeNumber Mute = 1
-codeModeNumber StandBy = 2
-
 abbrev pub codeNumber : CodeAnswer → ℕ
 codeNumber (NotDone k) = k
 codeNumber Entered = 100
-codeNumber (InMode m p) = 1000 + (4 * p + codeModeNumber m)
+codeNumber (InMode m p) = 1000 + (4 * p + modeByte (modeView m))
 
 abbrev pub isEntry : CodeAnswer → Bool
 isEntry (NotDone k) = false

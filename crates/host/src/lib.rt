@@ -10,7 +10,7 @@ ghost use Rattle.verdict.specs.Compare.{verdictOn};
 ghost use Rattle.entries.specs.Entries.{writeEntries, readEntries, readRecord};
 ghost use Rattle.calls.specs.Calls.{setupOn, restOn};
 ghost use Rattle.rest.specs.View.{restView};
-ghost use Rattle.host.specs.Numbers.{blockNumber, restNumber, orderNumber, verdictNumber, countedNumber, listedNumber, codeModeNumber, codeNumber, isEntry};
+ghost use Rattle.host.specs.Numbers.{blockNumber, restNumber, orderNumber, verdictNumber, countedNumber, listedNumber, codeNumber, isEntry};
 ghost use Rattle.host.specs.Calls.{Returns, eventAfter};
 ghost use Rattle.host.specs.Headers.{fieldsFit, headerOf, headerWritten, fieldBytes, headerFields};
 ghost use Rattle.host.specs.Archives.{recordFound, Listing};
@@ -25,21 +25,12 @@ use stepped::Answer;
 use stepped::Stepped;
 use verdict::Compared;
 
-fn mode_number(mode: Mode) -> u64
-    ensures { λ r. ⌜ (r ≡ codeModeNumber mode) × (r ≤ 2) ⌝ }
-{
-    match mode {
-        Mode::Normal => 0,
-        Mode::Mute => 1,
-        Mode::StandBy => 2,
-    }
-}
-
 fn in_mode(mode: Mode, phase: u32) -> u64
     ensures { λ r. ⌜ r ≡ codeNumber (Answer.InMode mode phase) ⌝ }
 {
     let wide = phase as u64;
-    1000 + (4 * wide + mode_number(mode))
+    let number = station::mode_byte(mode) as u64;
+    1000 + (4 * wide + number)
 }
 
 fn number_of(answer: Answer) -> u64
