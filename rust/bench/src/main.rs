@@ -18,6 +18,7 @@ mod programs;
 
 use std::hint::black_box;
 
+use comparison::library_step;
 use melontime::raw;
 use reference::in_place::{self, archives as placed};
 use reference::network::{Step, AREA};
@@ -36,19 +37,6 @@ fn read(bytes: &[u8]) -> u64 {
     });
     rest.iter()
         .fold(sum, |sum, &byte| sum.wrapping_add(byte.into()))
-}
-
-fn library_step(area: &mut [u8], event: &mut [u8], step: Step) -> u64 {
-    match step {
-        Step::Enter { station, register } => raw::enter(area, event, station as u32, register),
-        Step::Send {
-            station,
-            peer,
-            register,
-        } => raw::send(area, event, station as u32, peer as u32, register),
-        Step::Recv { station, peer } => raw::recv(area, event, station as u32, peer as u32),
-        Step::Start { station } => raw::start(area, event, station as u32),
-    }
 }
 
 /// A row of a list of steps, each accepted. The area is put back before each
