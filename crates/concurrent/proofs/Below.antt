@@ -100,17 +100,6 @@ module _ (p : ℕ → Bool) where
   pub count-room : (k n m : ℕ) → p k ≡ true → k < n → countBelow n p ≤ m → countBelow k p < m
   count-room k n m e l h = omega (arith, count-passed k e, count-grows (k + 1) n (omega arith))
 
-  -- not all, where one fails
-  pub count-fewer : (r n : ℕ) → p r ≡ false → r < n → countBelow n p < n
-  count-fewer r n f l =
-      grow (λ (n : ℕ). r < n → countBelow n p < n) (λ (l : r < 0). absurd (omega arith))
-      (λ (n : ℕ) (e : p n ≡ true) (h : r < n → countBelow n p < n) (l : r < n + 1). passed n e h l)
-      (λ (n : ℕ) (e : p n ≡ false) (h : r < n → countBelow n p < n) (l : r < n + 1). omega (arith, count-failed n e, count-most n)) n l
-    where
-      passed : (n : ℕ) → p n ≡ true → (r < n → countBelow n p < n) → r < n + 1 → countBelow (n + 1) p < n + 1
-      passed n e h l =
-          ⊎-elim (λ (s : r ≡ n). absurd (true≢false (sym e ∙ ap p (sym s) ∙ f))) (λ (b : r < n). omega (arith, count-passed n e, h b)) (eq-or-lt-of-le {n = r} {m = n} (omega arith))
-
   -- ---- which
   pub passing-members : (n k : ℕ) → List·Memᴰ k (passing n p) ↔ ((k < n) × (p k ≡ true))
   passing-members n k =

@@ -6,7 +6,7 @@ use mathlib.Core.List.{List, List·Memᴰ}
 use mathlib.Core.Bool.{Bool, true, false, _&&_, cond, and-false, true≢false}
 use native.Mathlib.Omega.{arith}
 use lib.Dec.{eqb, ltb}
-use lib.ListN.{length, getD, length-append, length-drop}
+use lib.ListN.{length, getD}
 use borrow.Author.Tests.{eqb-true, eqb-false, ltb-true, ltb-false, lt-ltb, eq-eqb, ne-eqb}
 use Rattle.codec.proofs.EveryLaws.{both, every-of}
 use Rattle.clock.specs.Timestamp.{Less}
@@ -23,7 +23,7 @@ use Rattle.concurrent.specs.ByNumber.{orderOf}
 use Rattle.concurrent.specs.declared.Listed.the-variants.{Count}
 use Rattle.concurrent.specs.declared.Listed.the-variants as listed
 use Rattle.archive.proofs.Tested.{record-well-made}
-use Rattle.concurrent.proofs.Below.{passing, passing-length, passing-members, passing-once, count-room, count-fewer, Filled}
+use Rattle.concurrent.proofs.Below.{passing, passing-length, passing-members, passing-once, count-room, Filled}
 
 -- ---- two events
 unordered-verdict : (v : Verdict) → isUnorderedVerdict v ≡ true → v ≡ Unordered
@@ -103,18 +103,9 @@ unfolding isUnordered
 unordered-irreflexive a r = rw (concurrent-irreflexive (eventAt a r)) (and-false (ltb r (records a)))
 
 -- ---- the list
--- it has fewer records than the archive
-pub unordered-fewer : (a : List ℕ) (r : ℕ) → r < records a → unorderedCount a r < records a
-unfolding unorderedCount
-unordered-fewer a r l = count-fewer (isUnordered a r) r (records a) (unordered-irreflexive a r) l
-
 -- a record is never in its own list
 pub never-itself : (a : List ℕ) (r : ℕ) (before after : List ℕ) (n : ℕ) (l : Lists a r before after n) → List·Memᴰ r (l .listed) → ⊥
 never-itself a r before after n l m = true≢false (sym (l .members r .0 m) ∙ unordered-irreflexive a r)
-
--- no place is added or lost
-pub same-places : (a : List ℕ) (r : ℕ) (before after : List ℕ) (n : ℕ) → Lists a r before after n → n ≤ length before → length after ≡ length before
-same-places a r before after n l f = rw (l .rest) (simp (length-append, length-drop) (omega (arith, l .many)))
 
 -- an answer that counts is of a list that fits
 pub count-fits : (a : List ℕ) (r places n : ℕ) → Count n ≡ unorderedAnswer a r places → n ≤ places

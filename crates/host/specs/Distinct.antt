@@ -1,7 +1,7 @@
 -- No two different answers of one call share a number. Assumes nothing.
 use Prim.Native.Nat.{ℕ, _<_, _+_, _*_}
 use native.Mathlib.Omega.{arith}
-use mathlib.Core.Path.{_≡_, refl, sym, ap, subst}
+use mathlib.Core.Path.{_≡_, refl, sym, ap, subst, _∙_}
 use mathlib.Core.List.{List, [], _∷_}
 use mathlib.Core.Bool.{Bool, true, false, not, cond, _&&_}
 use lib.Dec.{eqb, ltb}
@@ -155,23 +155,18 @@ verdict-low a b = go (wellMadeRecord a && wellMadeRecord b) (eqb (parseRecord a 
     go true false v = omega arith
     go false q v = omega arith
 
+-- the verdict of a number, so that no two verdicts share one
+abbrev orderOf : ℕ → Verdict
+orderOf k = cond (eqb k 100) Before (cond (eqb k 101) After (cond (eqb k 102) Same Unordered))
+
+order-back : (v : Verdict) → orderOf (orderNumber v) ≡ v
+order-back Before = refl
+order-back After = refl
+order-back Same = refl
+order-back Unordered = refl
+
 orders : (v w : Verdict) → orderNumber v ≡ orderNumber w → v ≡ w
-orders Before Before e = refl
-orders After After e = refl
-orders Same Same e = refl
-orders Unordered Unordered e = refl
-orders Before After e = absurd (omega arith)
-orders Before Same e = absurd (omega arith)
-orders Before Unordered e = absurd (omega arith)
-orders After Before e = absurd (omega arith)
-orders After Same e = absurd (omega arith)
-orders After Unordered e = absurd (omega arith)
-orders Same Before e = absurd (omega arith)
-orders Same After e = absurd (omega arith)
-orders Same Unordered e = absurd (omega arith)
-orders Unordered Before e = absurd (omega arith)
-orders Unordered After e = absurd (omega arith)
-orders Unordered Same e = absurd (omega arith)
+orders v w e = sym (order-back v) ∙ ap orderOf e ∙ order-back w
 
 high : (v : Verdict) → orderNumber v < 100 → ⊥
 high Before h = omega arith

@@ -1,20 +1,17 @@
 -- The reset rules on one record are what the network does: a new record for station i, and the items sent, in order, on every link out of it. Assumes nothing.
-use Prim.Native.Nat.{ℕ, zero, suc, _≤_, _<_}
+use Prim.Native.Nat.{ℕ, zero, suc, _<_}
 use mathlib.Core.Path.{_≡_, refl, sym, ap, _∙_}
 use mathlib.Core.List.{List, [], _∷_, _++_, append-nil}
 use mathlib.Core.Bool.{Bool, true, false, cond}
 use native.Mathlib.Omega.{arith}
-use lib.Dec.{eqb}
-use lib.ListN.{getD, length, length-append}
+use lib.ListN.{getD, length}
 use Rattle.codec.specs.Put.{put}
 use Rattle.reset.specs.Config.{Config, neighbours}
-use Rattle.reset.specs.Clock.{Clock, vector}
+use Rattle.reset.specs.Clock.{Clock}
 use Rattle.reset.specs.State.{Item, resetReq, resetDone, Station, State, blankStation, stationAt, linkAt, setStation, setLink, putOn, putLinked, putFirst, putOnAll}
 use Rattle.reset.specs.Steps.{Rule, ruleA, ruleB, ruleC, noRule, ruleOf, apply, begun, renewed, beginReset, renew, wake, turnOnce, turn}
 use Rattle.reset.specs.Views.{station-set, station-put-all}
 use Rattle.turning.specs.Turn.{Turning, turnedBy, turnedOnce, turnedAll, turned, started, putItems}
-use Rattle.turning.specs.Slots.{itemOf, Slots, slotItems, fresh, asked, slotAll}
-use Rattle.turning.proofs.SlotLaws.{slots-turned, slots-started}
 
 -- ---- a record replaced
 put-again : {A : Type 0} (d : A) (l : List A) (i : ℕ) (a b : A) → put d (put d l i a) i b ≡ put d l i b
@@ -123,22 +120,3 @@ module _ {K : Clock} where
         → turn c i (beginReset c i s) ≡ putItems c (setStation s i (started c i (stationAt s i) .station)) i (started c i (stationAt s i) .items)
     unfolding beginReset
     start-set s = turn-with s (record { station = begun (stationAt s i); items = resetReq ∷ [] })
-
--- ---- at most two items
-item-one : (k : ℕ) → length (itemOf k) ≤ 1
-item-one k = go (eqb k 2) (eqb k 3)
-  where
-    go : (a b : Bool) → length (cond {A = List (Item vector)} a (resetReq ∷ []) (cond b (resetDone ∷ []) [])) ≤ 1
-    go true b = omega arith
-    go false true = omega arith
-    go false false = omega arith
-
-two : (t : Slots) (u : Turning vector) → slotItems t ≡ u → length (u .items) ≤ 2
-two t u e = rw (← e, length-append) (omega (arith, item-one (t .first), item-one (t .second)))
-
-module _ (c : Config) (i : ℕ) (x : Station vector) where
-  pub turned-two : length (turned c i x .items) ≤ 2
-  turned-two = two (slotAll c i (fresh x)) (turned c i x) (slots-turned c i x)
-
-  pub started-two : length (started c i x .items) ≤ 2
-  started-two = two (slotAll c i (asked x)) (started c i x) (slots-started c i x)
