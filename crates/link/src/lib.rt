@@ -100,14 +100,6 @@ pub fn test(places: u8, n: u8, t: u16, part: &[u8]) -> bool
     codec::zeros(&part[z..])
 }
 
-// How many items the queue has.
-fn count(part: &[u8]) -> u8
-    requires { ⌜ length (now part) ≡ 715 ⌝ }
-    ensures { λ r. ⌜ r ≡ getD (now (part .entry)) 0 0 ⌝ }
-{
-    part[0]
-}
-
 // The first item, which stays.
 pub fn first(part: &[u8]) -> Item
     requires { ⌜ length (now part) ≡ 715 ⌝ }

@@ -132,7 +132,7 @@ fn take_message(area: &mut [u8], t: u16, s: Station, x: Item, i: usize, j: usize
     stepped::entry(3, i as u8, j as u8, x.register, y)
 }
 
-// Station i takes the item x, first on the link from j; s is its record.
+// Station i takes the first item of the link from j.
 fn take(area: &mut [u8], h: Header, limits: [[u8; 8]; 8], i: usize, j: usize) -> Stepped
     requires { ⌜ Holds (now area) i j × (headerConfig h limits ≡ configAt (now area)) ⌝ }
     ensures { λ r. ⌜ Does (Recv i j) (now (area .entry)) r (now (area .exit)) ⌝ }

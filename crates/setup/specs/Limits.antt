@@ -13,9 +13,9 @@ abbrev pub ofLimits : List (List ℕ) → Config
 ofLimits m = record { n = 0; t = 0; allowances = []; limits = m }
 
 -- the initial record of station i
-unfoldable pub freshStation : List (List ℕ) → ℕ → Station vector
-freshStation m i = initialStation vector (ofLimits m) i
+unfoldable pub initialOf : List (List ℕ) → ℕ → Station vector
+initialOf m i = initialStation vector (ofLimits m) i
 
 -- the bytes of the first k of them
-unfoldable pub freshStations : List (List ℕ) → ℕ → List ℕ
-freshStations m k = rows imageStation (upto k (freshStation m))
+unfoldable pub initialBytes : List (List ℕ) → ℕ → List ℕ
+initialBytes m k = rows imageStation (upto k (initialOf m))

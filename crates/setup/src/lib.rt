@@ -8,7 +8,7 @@ ghost use Rattle.codec.specs.Rows.{upto};
 ghost use Rattle.codec.specs.Splice.{splice};
 ghost use Rattle.station.specs.View.{stationView};
 ghost use Rattle.calls.specs.Calls.{setupOn};
-ghost use Rattle.setup.specs.Limits.{freshStation, freshStations};
+ghost use Rattle.setup.specs.Limits.{initialOf, initialBytes};
 use station::Mode;
 use station::Station;
 
@@ -29,9 +29,9 @@ fn neighbours(row: [u8; 8]) -> [bool; 8]
 }
 
 // The initial record of station i.
-fn fresh_station(limits: [[u8; 8]; 8], i: usize) -> Station
+fn initial_station(limits: [[u8; 8]; 8], i: usize) -> Station
     requires { ⌜ i < 8 ⌝ }
-    ensures { λ r. ⌜ stationView r ≡ freshStation limits i ⌝ }
+    ensures { λ r. ⌜ stationView r ≡ initialOf limits i ⌝ }
 {
     let row = limits[i];
     Station {
@@ -47,13 +47,13 @@ fn fresh_station(limits: [[u8; 8]; 8], i: usize) -> Station
 
 fn put_stations(area: &mut [u8], limits: [[u8; 8]; 8])
     requires { ⌜ length (now area) ≡ 65536 ⌝ }
-    ensures { λ _. ⌜ now (area .exit) ≡ splice (now (area .entry)) 512 (freshStations limits 8) ⌝ }
+    ensures { λ _. ⌜ now (area .exit) ≡ splice (now (area .entry)) 512 (initialBytes limits 8) ⌝ }
 {
     let mut i = 0;
     while i < 8 {
         let o = 512 + i * 47;
         let e = o + 47;
-        let x = fresh_station(limits, i);
+        let x = initial_station(limits, i);
         station::store(&mut area[o..e], x);
         i += 1;
     }

@@ -5,14 +5,14 @@ use denote.Ref.{now}
 use lib.ListN.{length, length-take, length-drop}
 use Rattle.codec.specs.Splice.{splice}
 use Rattle.codec.proofs.SpliceLaws.{splice-none, splice-length}
-use Rattle.setup.specs.Limits.{freshStations}
+use Rattle.setup.specs.Limits.{initialBytes}
 use Rattle.setup.proofs.Laws.{fresh-none, fresh-length, station-turn}
 use Rattle.station.specs.Image.{imageStation}
 use Rattle.setup.proofs.put_stations.Statement.{statement}
 use Rattle.setup.proofs.put_stations.Tie as tie
 
 abbrev Inv-loop : tie.InvT-loop
-Inv-loop area₀ limits i₀ area i = (i ≤ 8) × (length area ≡ length area₀) × (area ≡ splice area₀ 512 (freshStations limits i))
+Inv-loop area₀ limits i₀ area i = (i ≤ 8) × (length area ≡ length area₀) × (area ≡ splice area₀ 512 (initialBytes limits i))
 
 abbrev μ-loop : tie.MeasureT-loop
 μ-loop area₀ limits i₀ area i = 8 - i
@@ -31,8 +31,8 @@ add-o c = omega arith
 add-e : tie.Need-add-e Inv-loop μ-loop
 add-e c = omega arith
 
-fresh-station-requires : tie.Need-fresh-station-requires Inv-loop μ-loop
-fresh-station-requires c κs = omega arith
+initial-station-requires : tie.Need-initial-station-requires Inv-loop μ-loop
+initial-station-requires c κs = omega arith
 
 sub-store : tie.Need-sub-store Inv-loop μ-loop
 sub-store c = omega arith
@@ -58,9 +58,9 @@ loop-again c =
     let a = c .before .before .before .before .before .before .before .before .args in
     let e : 512 + l .i * 47 + 47 - (512 + l .i * 47) ≡ 47 = omega arith in
     let t = station-turn (now (a .area)) (l .area) _ (a .limits) (l .i) (512 + l .i * 47 + 47) (omega arith) (c .before .before .before .before .before .before .before .before .pre) (l .inv .2) e
-    (c .before .before .store .ensures ∙ ap imageStation (c .before .before .before .before .fresh-station .ensures)) in
+    (c .before .before .store .ensures ∙ ap imageStation (c .before .before .before .before .initial-station .ensures)) in
     let s = fresh-length (a .limits) (l .i + 1) in
-    (omega arith, ap length t ∙ splice-length (now (a .area)) 512 (freshStations (a .limits) (l .i + 1)) (omega arith), t)
+    (omega arith, ap length t ∙ splice-length (now (a .area)) 512 (initialBytes (a .limits) (l .i + 1)) (omega arith), t)
 
 same-length : tie.Need-same-length Inv-loop μ-loop
 same-length c = omega arith
@@ -78,7 +78,7 @@ put-stations-spec =
     mul-o
     add-o
     add-e
-    fresh-station-requires
+    initial-station-requires
     sub-store
     part-store-start
     part-store-end

@@ -2,10 +2,10 @@ use Rattle.reset.specs.Reach.{limit, linked}
 use Rattle.reset.specs.Config.{neighbours}
 use Rattle.reset.specs.State.{noneSeen}
 use Rattle.clock.specs.Timestamp.{zeros}
-use Rattle.setup.specs.Limits.{freshStation}
+use Rattle.setup.specs.Limits.{initialOf}
 use borrow.Author.Needs.{needs}
-use Rattle.setup.proofs.fresh_station.Statement.{statement}
-use Rattle.setup.proofs.fresh_station.Tie as tie
+use Rattle.setup.proofs.initial_station.Statement.{statement}
+use Rattle.setup.proofs.initial_station.Tie as tie
 
 mul-row : tie.Need-mul-row
 mul-row c = search needs
@@ -17,8 +17,8 @@ neighbours-requires : tie.Need-neighbours-requires
 neighbours-requires c κs = search needs
 
 returns : tie.Need-returns
-unfolding freshStation neighbours linked limit zeros noneSeen
+unfolding initialOf neighbours linked limit zeros noneSeen
 returns c = rw (c .neighbours .ensures)
 
-pub fresh-station-spec : {M : Type 1} → statement M
-fresh-station-spec = tie.close (tie.spec mul-row array-copy-out-row neighbours-requires returns)
+pub initial-station-spec : {M : Type 1} → statement M
+initial-station-spec = tie.close (tie.spec mul-row array-copy-out-row neighbours-requires returns)
