@@ -4,4 +4,5 @@ pub mod Rows
 pub mod Every
 pub mod Put
 pub mod Check
+pub mod Columns
 pub mod Written

@@ -1,11 +1,12 @@
 // Little-endian numbers in slices of bytes; runs of zeros; copies; the check of a block.
 ghost use mathlib.Core.Path.{_≡_};
-ghost use Prim.Native.Nat.{_+_, _<_, _≤_};
+ghost use Prim.Native.Nat.{_+_, _*_, _<_, _≤_};
 ghost use lib.ListN.{length, take};
 ghost use Rattle.codec.specs.Splice.{splice};
 ghost use Rattle.codec.specs.Num.{bytesOf, numAt, numsAt, numsOf};
 ghost use Rattle.codec.specs.Every.{allZero, blank};
 ghost use Rattle.codec.specs.Check.{weighted, checkOf, sealed as Sealed, sealOf};
+ghost use Rattle.codec.specs.Columns.{columnSum, columnRows, columnsTo};
 
 fn wide16(x: u8) -> u16
     ensures { λ r. ⌜ (r ≡ x) × (r < 256) ⌝ }
@@ -146,13 +147,69 @@ pub fn put_bytes(d: &mut [u8], at: usize, s: &[u8])
     copy(&mut d[at..end], s);
 }
 
+// The sum of a column, and the sum of its bytes, each times its row.
+struct Sums {
+    low: u16,
+    high: u16,
+}
+
+// What column k comes to, each byte times its place from 1. The remainder changes nothing: it shows the compiler that the
+// product is small.
+fn share(k: u32, low: u16, high: u16) -> u32
+    requires { ⌜ (k < 32) × (low ≤ 3825) × (high ≤ 53550) ⌝ }
+    ensures { λ r. ⌜ (r ≡ 32 * high + (k + 1) * low) × (r ≤ 1836000) ⌝ }
+{
+    32 * (high as u32) + (k + 1) * ((low % 4096) as u32)
+}
+
+// Column j of the first 480 bytes, which are 15 rows of 32, from the last row to the first: each sum is added to the
+// other once for each row that is left, so that no product is made.
+fn column(s: &[u8], j: usize) -> Sums
+    requires { ⌜ (j < 32) × (480 ≤ length (now s)) ⌝ }
+    ensures { λ r. ⌜ (r .low ≡ columnSum 15 (now (s .entry)) j) × (r .high ≡ columnRows 15 (now (s .entry)) j) × (r .low ≤ 3825) × (r .high ≤ 53550) ⌝ }
+{
+    let mut low: u16 = 0;
+    let mut high: u16 = 0;
+    let mut r: usize = 15;
+    while 0 < r {
+        r -= 1;
+        high += low;
+        low += wide16(s[r * 32 + j]);
+    }
+    Sums { low, high }
+}
+
+// The sum of the first 480 bytes, each times its place from 1. The columns are vectorised: eight at a time, in 16 bits.
+fn weigh_columns(s: &[u8]) -> u32
+    requires { ⌜ 480 ≤ length (now s) ⌝ }
+    ensures { λ r. ⌜ (r ≡ columnsTo 32 (now (s .entry))) × (r ≤ 58752000) ⌝ }
+{
+    let mut lows: [u16; 32] = [0; 32];
+    let mut highs: [u16; 32] = [0; 32];
+    let mut j = 0;
+    while j < 32 {
+        let c = column(s, j);
+        lows[j] = c.low;
+        highs[j] = c.high;
+        j += 1;
+    }
+    let mut sum: u32 = 0;
+    let mut k: u32 = 0;
+    while k < 32 {
+        let at = k as usize;
+        sum += share(k, lows[at], highs[at]);
+        k += 1;
+    }
+    sum
+}
+
 // The sum of the first 510 bytes, each times its place from 1: at most 510 times 255 times 510, so that 32 bits hold it.
 fn weigh(s: &[u8]) -> u32
     requires { ⌜ 510 ≤ length (now s) ⌝ }
     ensures { λ r. ⌜ (r ≡ weighted 1 (take 510 (now (s .entry)))) × (r ≤ 66325500) ⌝ }
 {
-    let mut sum: u32 = 0;
-    let mut i: u32 = 0;
+    let mut sum = weigh_columns(s);
+    let mut i: u32 = 480;
     while i < 510 {
         let at = i as usize;
         sum += (i + 1) * wide32(s[at]);

@@ -1,22 +1,27 @@
 use Prim.Native.Nat.{_*_, _-_, _≤_, _<_}
-use mathlib.Core.Path.{_≡_, sym}
+use mathlib.Core.Path.{_≡_, _∙_, sym}
 use native.Mathlib.Omega.{arith}
 use denote.Ref.{now}
 use lib.ListN.{length, take}
 use borrow.Author.Needs.{needs}
 use Rattle.codec.specs.Check.{weighted}
-use Rattle.codec.proofs.CheckLaws.{weighted-more, weight-small, weighted-none}
+use Rattle.codec.proofs.CheckLaws.{weighted-more, weight-small}
+use Rattle.codec.proofs.ColumnLaws.{columns-are}
 use Rattle.codec.proofs.weigh.Statement.{statement}
 use Rattle.codec.proofs.weigh.Tie as tie
 
 abbrev Inv-loop : tie.InvT-loop
-Inv-loop s sum₀ i₀ sum i = (i ≤ 510) × (sum ≤ 130050 * i) × (sum ≡ weighted 1 (take i s))
+Inv-loop s sum₀ i₀ sum i = (480 ≤ i) × (i ≤ 510) × (sum ≤ 130050 * i) × (sum ≡ weighted 1 (take i s))
 
 abbrev μ-loop : tie.MeasureT-loop
 μ-loop s sum₀ i₀ sum i = 510 - i
 
+weigh-columns-requires : tie.Need-weigh-columns-requires Inv-loop μ-loop
+weigh-columns-requires c κs = omega arith
+
 loop-holds : tie.Need-loop-holds Inv-loop μ-loop
-loop-holds c = (omega arith, omega arith, sym weighted-none)
+loop-holds c =
+    (omega arith, omega arith, omega arith, c .weigh-columns .ensures .0 ∙ columns-are (now (c .before .before .args .s)) (omega arith))
 
 cast-at : tie.Need-cast-at Inv-loop μ-loop
 cast-at c = omega arith
@@ -45,15 +50,15 @@ loop-less c = omega arith
 loop-again : tie.Need-loop-again Inv-loop μ-loop
 loop-again c =
     let l = c .before .before .before .loop in
-    let s = now (c .before .before .before .before .before .args .s) in
+    let s = now (c .before .before .before .before .before .before .args .s) in
     let h : l .i < length s = omega arith in
-    (omega arith, omega (arith, weight-small (c .before .before .before .loop .i) (c .wide32 .result) (omega arith) (c .wide32 .ensures .1)), rw (c .wide32 .ensures .0, l .inv .2) (sym (weighted-more s (l .i) h)))
+    (omega arith, omega arith, omega (arith, weight-small (c .before .before .before .loop .i) (c .wide32 .result) (omega arith) (c .wide32 .ensures .1)), rw (c .wide32 .ensures .0, l .inv .3) (sym (weighted-more s (l .i) h)))
 
 returns : tie.Need-returns Inv-loop μ-loop
 returns c =
     let l = c .before .loop in
     let e : l .i ≡ 510 = omega arith in
-    (rw e at (l .inv .2), omega arith)
+    (rw e at (l .inv .3), omega arith)
 
 pub weigh-spec : {M : Type 1} → statement M
 weigh-spec =
@@ -61,6 +66,7 @@ weigh-spec =
     (tie.spec
     Inv-loop
     μ-loop
+    weigh-columns-requires
     loop-holds
     cast-at
     add-sum

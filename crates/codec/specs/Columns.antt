@@ -1,0 +1,21 @@
+-- The first bytes of a block as rows of 32, as the code adds them up; the check itself is in Check. Assumes nothing.
+use Prim.Native.Nat.{ℕ, zero, suc, _+_, _*_}
+use mathlib.Core.List.{List}
+use lib.ListN.{getD}
+
+-- f 0 + f 1 + .. + f (n - 1)
+unfoldable pub sumTo : ℕ → (ℕ → ℕ) → ℕ
+sumTo zero f = 0
+sumTo (suc n) f = sumTo n f + f n
+
+-- the bytes of column j in n rows, added up
+unfoldable pub columnSum : ℕ → List ℕ → ℕ → ℕ
+columnSum n l j = sumTo n (λ (r : ℕ). getD l (r * 32 + j) 0)
+
+-- the same, each byte times its row
+unfoldable pub columnRows : ℕ → List ℕ → ℕ → ℕ
+columnRows n l j = sumTo n (λ (r : ℕ). r * getD l (r * 32 + j) 0)
+
+-- what the first n columns of 15 rows come to, each byte times its place from 1
+unfoldable pub columnsTo : ℕ → List ℕ → ℕ
+columnsTo n l = sumTo n (λ (j : ℕ). 32 * columnRows 15 l j + (j + 1) * columnSum 15 l j)
