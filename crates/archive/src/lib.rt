@@ -1,12 +1,14 @@
 // A whole archive: its test, its records, and a found record as a part of the caller's own bytes.
 ghost use mathlib.Core.Path.{_≡_};
-ghost use mathlib.Core.Bool.{true};
-ghost use Prim.Native.Nat.{_≤_, _<_, _+_, _*_, _/_};
+ghost use mathlib.Core.Bool.{true, cond};
+ghost use Prim.Native.Nat.{ℕ, _≤_, _<_, _+_, _*_, _/_};
+ghost use lib.Dec.{leb};
 ghost use lib.ListN.{length};
-ghost use Rattle.entries.specs.Entries.{numberOf, wellMadeEntries};
-ghost use Rattle.archive.specs.Archive.{hasLink, peerKnown, recordKnown, allKnown, blockFits, blocksFit, archiveTest, records as recordsOf, recordAt, countRecords, findRecord, foundRecord};
-use header::Header;
-use record::Record;
+ghost use Rattle.codec.specs.Every.{every};
+ghost use Rattle.header.specs.Header.{parseHeader, tableAt};
+ghost use Rattle.entries.specs.Entries.{numberOf, recordOf};
+ghost use Rattle.archive.specs.Archive.{blockFits, blocksFit, archiveTest, records as recordsOf, recordAt, countRecords, findRecord, foundRecord};
+ghost use Rattle.archive.specs.Sweep.{countAt, countsTest, Fronts, recordTest};
 
 // How many records an archive has, or a refusal's number.
 pub enum Counted {
@@ -14,58 +16,99 @@ pub enum Counted {
     Refused(u8),
 }
 
-fn has_link(limits: [[u8; 8]; 8], from: u8, to: u8) -> bool
-    requires { ⌜ (from < 8) × (to < 8) ⌝ }
-    ensures { λ r. ⌜ r ≡ hasLink limits from to ⌝ }
+fn wide(x: u8) -> usize
+    ensures { λ r. ⌜ (r ≡ x) × (r < 256) ⌝ }
 {
-    let i = from as usize;
-    let j = to as usize;
-    let row = limits[i];
-    0 < row[j]
+    x as usize
 }
 
-fn peer_known(n: u8, limits: [[u8; 8]; 8], r: Record) -> bool
-    requires { ⌜ (n ≤ 8) × (r .station < 8) ⌝ }
-    ensures { λ q. ⌜ q ≡ peerKnown n limits r ⌝ }
+// The counts of station i in the fifteen places of a block are at most m.
+fn column_fits(block: &[u8], i: usize, m: u16) -> bool
+    requires { ⌜ (length (now block) ≡ 512) × (i < 8) ⌝ }
+    ensures { λ r. ⌜ r ≡ every 15 (λ (k : ℕ). leb (countAt (now (block .entry)) i k) m) ⌝ }
 {
-    if r.kind == 1 {
-        return true;
+    let mut ok = true;
+    let mut k = 0;
+    while k < 15 {
+        ok = ok & (codec::get16(block, 32 + k * 32 + 2 * i) <= m);
+        k += 1;
     }
-    if n <= r.peer {
-        return false;
-    }
-    ((r.kind == 2) & has_link(limits, r.station, r.peer))
-        | ((r.kind == 3) & has_link(limits, r.peer, r.station))
+    ok
 }
 
-// The record names only what the header has.
-fn record_known(h: Header, limits: [[u8; 8]; 8], r: Record) -> bool
-    requires { ⌜ h .n ≤ 8 ⌝ }
-    ensures { λ q. ⌜ q ≡ recordKnown h limits r ⌝ }
+// Every count in the fifteen places of a block is at most t, and 0 for stations n and above. The stations are vectorised.
+fn counts_fit(block: &[u8], n: u8, t: u16) -> bool
+    requires { ⌜ length (now block) ≡ 512 ⌝ }
+    ensures { λ r. ⌜ r ≡ countsTest n t (now (block .entry)) ⌝ }
 {
-    if h.n <= r.station {
-        return false;
+    let mut ok = true;
+    let mut j: u8 = 0;
+    while j < 8 {
+        let i = j as usize;
+        ok = ok & column_fits(block, i, clock::ceiling(j, n, t));
+        j += 1;
     }
-    let counts = r.counts;
-    peer_known(h.n, limits, r) & clock::counts_fit(counts, h.n, h.t)
+    ok
 }
 
-// Every record of a well-made block names only what the header has.
-fn all_known(h: Header, limits: [[u8; 8]; 8], block: &[u8]) -> bool
-    requires { ⌜ (h .n ≤ 8) × (wellMadeEntries (now block) ≡ true) ⌝ }
-    ensures { λ r. ⌜ r ≡ allKnown h limits (now (block .entry)) ⌝ }
+fn front(stands: bool, x: usize, other: u32) -> u32
+    requires { ⌜ x < 4294967296 ⌝ }
+    ensures { λ r. ⌜ r ≡ cond stands x other ⌝ }
 {
-    let count = entries::count_of(block);
+    if stands { x as u32 } else { other }
+}
+
+// The first four bytes of the records that a header allows, as numbers, in the places that a record's kind, station and
+// peer lead to; elsewhere a number whose kind is another.
+fn fronts(head: &[u8], n: u8) -> [u32; 256]
+    requires { ⌜ length (now head) ≡ 512 ⌝ }
+    ensures { λ r. ⌜ Fronts n (tableAt 8 (now (head .entry)) 32) r ⌝ }
+{
+    let top = wide(n);
+    let mut r: [u32; 256] = [1; 256];
+    let mut j = 0;
+    while j < 64 {
+        let s = j / 8;
+        let p = j % 8;
+        let both = (s < top) & ((p < top) & (s != p));
+        r[4 * j + 1] = front((p == 7) & (s < top), 16711681 + 256 * s, 2);
+        r[4 * j + 2] = front(both & (0 < head[32 + j]), 2 + 256 * s + 65536 * p, 1);
+        r[4 * j + 3] = front(
+            both & (0 < head[32 + (p * 8 + s)]),
+            3 + 256 * s + 65536 * p,
+            1,
+        );
+        j += 1;
+    }
+    r
+}
+
+// A record is well made and names only what the header has, but for its counts.
+fn record_fits(known: &[u32; 256], part: &[u8]) -> bool
+    requires { ⌜ length (now part) ≡ 32 ⌝ }
+    ensures { λ r. ⌜ r ≡ recordTest (now (known .entry)) (now (part .entry)) ⌝ }
+{
+    let i = wide(part[1]) % 8;
+    let at = (i * 8 + wide(part[2]) % 8) * 4 + wide(part[0]) % 4;
+    (known[at] == codec::get32(part, 0))
+        & ((codec::get32(part, 12) == 0)
+            & ((codec::get32(part, 4) <= 999999) & (1 <= codec::get16(part, 16 + 2 * i))))
+}
+
+// The same of the first `count` records of a block.
+fn records_fit(known: &[u32; 256], block: &[u8], count: usize) -> bool
+    requires { ⌜ (length (now block) ≡ 512) × (count ≤ 15) ⌝ }
+    ensures { λ r. ⌜ r ≡ every count (λ (k : ℕ). recordTest (now (known .entry)) (recordOf (now (block .entry)) k)) ⌝ }
+{
+    let mut ok = true;
     let mut k = 0;
     while k < count {
         let o = entries::start_of(k);
         let e = o + 32;
-        if !record_known(h, limits, record::load(&block[o..e])) {
-            return false;
-        }
+        ok = ok & record_fits(known, &block[o..e]);
         k += 1;
     }
-    true
+    ok
 }
 
 fn number_of(block: &[u8]) -> usize
@@ -76,28 +119,32 @@ fn number_of(block: &[u8]) -> usize
 }
 
 // An entries block in its place.
-fn block_fits(h: Header, limits: [[u8; 8]; 8], number: usize, last: bool, block: &[u8]) -> bool
-    requires { ⌜ h .n ≤ 8 ⌝ }
-    ensures { λ r. ⌜ r ≡ blockFits h limits number last (now (block .entry)) ⌝ }
+fn block_fits(head: &[u8], known: &[u32; 256], number: usize, last: bool, block: &[u8]) -> bool
+    requires { ⌜ (length (now head) ≡ 512) × (parseHeader (now head) .n ≤ 8) × Fronts (parseHeader (now head) .n) (tableAt 8 (now head) 32) (now known) × (length (now block) ≡ 512) ⌝ }
+    ensures { λ r. ⌜ r ≡ blockFits (parseHeader (now (head .entry))) (tableAt 8 (now (head .entry)) 32) number last (now (block .entry)) ⌝ }
 {
-    if !entries::well_made(block) {
+    if !entries::front_fits(block) {
         return false;
     }
+    let count = entries::count_of(block);
     (number_of(block) == number)
-        & ((last | (entries::count_of(block) == 15)) & all_known(h, limits, block))
+        & ((last | (count == 15))
+            & (entries::tail_fits(block, count)
+                & (counts_fit(block, head[1], codec::get16(head, 2))
+                    & records_fit(known, block, count))))
 }
 
 // The n entries blocks behind the header fit.
-fn blocks_fit(a: &[u8], h: Header, limits: [[u8; 8]; 8], n: usize) -> bool
-    requires { ⌜ (h .n ≤ 8) × ((n + 1) * 512 ≤ length (now a)) ⌝ }
-    ensures { λ r. ⌜ r ≡ blocksFit h limits (now (a .entry)) n ⌝ }
+fn blocks_fit(a: &[u8], head: &[u8], known: &[u32; 256], n: usize) -> bool
+    requires { ⌜ (length (now head) ≡ 512) × (parseHeader (now head) .n ≤ 8) × Fronts (parseHeader (now head) .n) (tableAt 8 (now head) 32) (now known) × ((n + 1) * 512 ≤ length (now a)) ⌝ }
+    ensures { λ r. ⌜ r ≡ blocksFit (parseHeader (now (head .entry))) (tableAt 8 (now (head .entry)) 32) (now (a .entry)) n ⌝ }
 {
     let mut b = 0;
     while b < n {
         let next = b + 1;
         let o = next * 512;
         let e = o + 512;
-        if !block_fits(h, limits, next, next == n, &a[o..e]) {
+        if !block_fits(head, known, next, next == n, &a[o..e]) {
             return false;
         }
         b = next;
@@ -119,12 +166,8 @@ pub fn test(a: &[u8]) -> bool
     if !header::well_made(head) {
         return false;
     }
-    blocks_fit(
-        a,
-        header::load(head),
-        header::load_limits(head),
-        a.len() / 512 - 1,
-    )
+    let known = fronts(head, head[1]);
+    blocks_fit(a, head, &known, a.len() / 512 - 1)
 }
 
 // How many records a tested archive has.

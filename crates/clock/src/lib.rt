@@ -89,7 +89,7 @@ pub fn raise(a: [u16; 8], b: [u16; 8], i: usize) -> [u16; 8]
 }
 
 // t for a station below n, else 0.
-fn ceiling(k: u8, n: u8, t: u16) -> u16
+pub fn ceiling(k: u8, n: u8, t: u16) -> u16
     ensures { λ r. ⌜ r ≡ ceilingOf n t k ⌝ }
 {
     if k < n { t } else { 0 }

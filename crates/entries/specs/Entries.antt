@@ -31,9 +31,13 @@ frontFits l =
     sealed l && (eqb (getD l 0 0) 2 && (leb 1 (countOf l) && (leb (countOf l) 15
     && (eqb (numAt 2 l 2) 0 && (leb 1 (numberOf l) && allZero (take 8 (drop 8 l)))))))
 
+-- the places past the last record are zero up to the check
+abbrev pub tailFits : List ℕ → ℕ → Bool
+tailFits l count = allZero (take (510 - recordsEnd count) (drop (recordsEnd count) l))
+
 -- every record is well made, and the places past the last one are zero up to the check
 unfoldable pub bodyFits : List ℕ → ℕ → Bool
-bodyFits l count = every count (λ (k : ℕ). wellMadeRecord (recordOf l k)) && allZero (take (510 - recordsEnd count) (drop (recordsEnd count) l))
+bodyFits l count = every count (λ (k : ℕ). wellMadeRecord (recordOf l k)) && tailFits l count
 
 -- bytes that are an entries block
 unfoldable pub wellMadeEntries : List ℕ → Bool

@@ -5,7 +5,7 @@ ghost use Prim.Native.Nat.{_≤_, _<_, _*_};
 ghost use lib.ListN.{length};
 ghost use Rattle.codec.specs.Splice.{splice};
 ghost use Rattle.entries.specs.Starts.{recordStart};
-ghost use Rattle.entries.specs.Entries.{countOf, frontFits, recordsFit, bodyFits, wellMadeEntries, imageEntries, entriesFit, writeEntries, readEntries, readRecord};
+ghost use Rattle.entries.specs.Entries.{countOf, frontFits, recordsFit, tailFits, bodyFits, wellMadeEntries, imageEntries, entriesFit, writeEntries, readEntries, readRecord};
 
 // What a block reader finds: the block's number and its count of records, or a refusal's number.
 pub enum EntriesRead {
@@ -38,7 +38,7 @@ fn records_fit(rs: &[u8], count: usize) -> bool
     true
 }
 
-fn front_fits(s: &[u8]) -> bool
+pub fn front_fits(s: &[u8]) -> bool
     requires { ⌜ length (now s) ≡ 512 ⌝ }
     ensures { λ r. ⌜ r ≡ frontFits (now (s .entry)) ⌝ }
 {
@@ -58,13 +58,22 @@ pub fn count_of(s: &[u8]) -> usize
     s[1] as usize
 }
 
+// Zeros follow the records.
+pub fn tail_fits(s: &[u8], count: usize) -> bool
+    requires { ⌜ (length (now s) ≡ 512) × (1 ≤ count) × (count ≤ 15) ⌝ }
+    ensures { λ r. ⌜ r ≡ tailFits (now (s .entry)) count ⌝ }
+{
+    let end = start_of(count - 1) + 32;
+    codec::zeros(&s[end..510])
+}
+
 // The records are well made, and zeros follow them.
 fn body_fits(s: &[u8], count: usize) -> bool
     requires { ⌜ (length (now s) ≡ 512) × (1 ≤ count) × (count ≤ 15) ⌝ }
     ensures { λ r. ⌜ r ≡ bodyFits (now (s .entry)) count ⌝ }
 {
     let end = start_of(count - 1) + 32;
-    records_fit(&s[16..end], count) & codec::zeros(&s[end..510])
+    records_fit(&s[16..end], count) & tail_fits(s, count)
 }
 
 // The bytes are an entries block.

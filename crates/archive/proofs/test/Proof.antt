@@ -35,23 +35,23 @@ returns-3 : tie.Need-returns-3
 unfolding archiveTest blocks
 returns-3 c = rw (eq-eqb _ 0 (c .before .before .before .before .if1 .left), sym (c .before .well-made .ensures) ∙ not-true _ (c .if3 .taken))
 
-load-requires : tie.Need-load-requires
-load-requires c κs = search needs
+shared-slice-read-fronts : tie.Need-shared-slice-read-fronts
+shared-slice-read-fronts c = search needs
 
-load-limits-requires : tie.Need-load-limits-requires
-load-limits-requires c κs = search needs
+fronts-requires : tie.Need-fronts-requires
+fronts-requires c κs = search needs
 
 sub-blocks-fit : tie.Need-sub-blocks-fit
 sub-blocks-fit c = search needs
 
 blocks-fit-requires : tie.Need-blocks-fit-requires
 blocks-fit-requires c κs =
-    let n = header-small (take 512 (now (c .before .before .before .before .before .before .before .before .args .a))) (sym (c .before .before .before .well-made .ensures) ∙ not-false _ (c .before .before .if3 .left)) in
-    (rw (c .before .load .ensures) n, omega arith)
+    let n = header-small (take 512 (now (c .before .before .before .before .before .before .before .before .before .args .a))) (sym (c .before .before .before .before .well-made .ensures) ∙ not-false _ (c .before .before .before .if3 .left)) in
+    (search needs, n, c .before .fronts .ensures, omega arith)
 
 returns-4 : tie.Need-returns-4
 unfolding archiveTest blocks
-returns-4 c = rw (eq-eqb _ 0 (c .before .before .before .before .before .before .before .if1 .left), (sym (c .before .before .before .before .well-made .ensures) ∙ not-false _ (c .before .before .before .if3 .left)), ← c .before .before .load .ensures, ← c .before .load-limits .ensures) (c .blocks-fit .ensures)
+returns-4 c = rw (eq-eqb _ 0 (c .before .before .before .before .before .before .before .before .if1 .left), (sym (c .before .before .before .before .before .well-made .ensures) ∙ not-false _ (c .before .before .before .before .if3 .left))) (c .blocks-fit .ensures)
 
 pub test-spec : {M : Type 1} → statement M
 test-spec =
@@ -64,8 +64,8 @@ test-spec =
     part-head-end
     well-made-requires
     returns-3
-    load-requires
-    load-limits-requires
+    shared-slice-read-fronts
+    fronts-requires
     sub-blocks-fit
     blocks-fit-requires
     returns-4)

@@ -5,7 +5,6 @@ use denote.Ref.{now}
 use lib.ListN.{length-take, length-drop}
 use Rattle.codec.specs.Every.{every}
 use Rattle.record.specs.Record.{wellMadeRecord}
-use Rattle.entries.specs.Starts.{recordStart, recordsEnd}
 use Rattle.entries.specs.Entries.{recordOf, bodyFits}
 use Rattle.entries.proofs.Laws.{start-is, records-part}
 use borrow.Author.Needs.{needs}
@@ -33,27 +32,17 @@ part-records-fit-end c = omega (arith, start-is (c .before .before .args .count 
 records-fit-requires : tie.Need-records-fit-requires
 records-fit-requires c κs = (simp (length-take, length-drop) (omega (arith, start-is (c .before .before .before .args .count - 1) (omega arith), c .before .start-of .ensures)), omega arith)
 
-sub-zeros : tie.Need-sub-zeros
-sub-zeros c = omega (arith, start-is (c .before .before .before .before .args .count - 1) (omega arith), c .before .before .start-of .ensures)
-
-part-zeros-start : tie.Need-part-zeros-start
-part-zeros-start c = omega (arith, start-is (c .before .before .before .before .args .count - 1) (omega arith), c .before .before .start-of .ensures)
-
-part-zeros-end : tie.Need-part-zeros-end
-part-zeros-end c = search needs
-
-zeros-requires : tie.Need-zeros-requires
-zeros-requires c κs = search needs
+tail-fits-requires : tie.Need-tail-fits-requires
+tail-fits-requires c κs = search needs
 
 returns : tie.Need-returns
-unfolding bodyFits recordsEnd
+unfolding bodyFits
 returns c =
-    let count = c .before .before .before .before .before .before .args .count in
-    let l = now (c .before .before .before .before .before .before .args .s) in
-    let e : c .before .before .before .before .start-of .result + 32 - 16 ≡ count * 32 = omega (arith, start-is (c .before .before .before .before .before .before .args .count - 1) (omega arith), c .before .before .before .before .start-of .ensures) in
-    let g : c .before .before .before .before .start-of .result ≡ recordStart (count - 1) = c .before .before .before .before .start-of .ensures in
-    let r : c .before .before .records-fit .result ≡ every count (λ (k : ℕ). wellMadeRecord (recordOf l k)) = (rw e at (c .before .before .records-fit .ensures)) ∙ records-part l count (omega arith) in
-    rw (r, rw g at (c .zeros .ensures))
+    let count = c .before .before .before .before .before .args .count in
+    let l = now (c .before .before .before .before .before .args .s) in
+    let e : c .before .before .before .start-of .result + 32 - 16 ≡ count * 32 = omega (arith, start-is (count - 1) (omega arith), c .before .before .before .start-of .ensures) in
+    let r : c .before .records-fit .result ≡ every count (λ (k : ℕ). wellMadeRecord (recordOf l k)) = (rw e at (c .before .records-fit .ensures)) ∙ records-part l count (omega arith) in
+    rw (r, c .tail-fits .ensures)
 
 pub body-fits-spec : {M : Type 1} → statement M
 body-fits-spec =
@@ -66,8 +55,5 @@ body-fits-spec =
     part-records-fit-start
     part-records-fit-end
     records-fit-requires
-    sub-zeros
-    part-zeros-start
-    part-zeros-end
-    zeros-requires
+    tail-fits-requires
     returns)

@@ -1,0 +1,60 @@
+use Prim.Native.Nat.{ℕ, _-_, _≤_}
+use mathlib.Core.Path.{_≡_, sym}
+use native.Mathlib.Omega.{arith}
+use borrow.Author.Needs.{needs}
+use lib.Dec.{leb}
+use Rattle.codec.specs.Every.{every}
+use Rattle.codec.proofs.EveryLaws.{every-none}
+use Rattle.codec.proofs.FlagLaws.{every-turn}
+use Rattle.clock.specs.Range.{ceilingOf}
+use Rattle.archive.specs.Sweep.{countAt, countsTest}
+use Rattle.archive.proofs.counts_fit.Statement.{statement}
+use Rattle.archive.proofs.counts_fit.Tie as tie
+
+abbrev Inv-loop : tie.InvT-loop
+Inv-loop block n t ok₀ j₀ ok j = (j ≤ 8) × (ok ≡ every j (λ (i : ℕ). every 15 (λ (k : ℕ). leb (countAt block i k) (ceilingOf n t i))))
+
+abbrev μ-loop : tie.MeasureT-loop
+μ-loop block n t ok₀ j₀ ok j = 8 - j
+
+loop-holds : tie.Need-loop-holds Inv-loop μ-loop
+loop-holds c = (omega arith, sym (every-none _))
+
+cast-i : tie.Need-cast-i Inv-loop μ-loop
+cast-i c = omega arith
+
+ceiling-requires : tie.Need-ceiling-requires Inv-loop μ-loop
+ceiling-requires c κs = search needs
+
+column-fits-requires : tie.Need-column-fits-requires Inv-loop μ-loop
+column-fits-requires c κs = (c .before .before .before .before .pre, omega arith)
+
+add-j : tie.Need-add-j Inv-loop μ-loop
+add-j c = omega arith
+
+loop-less : tie.Need-loop-less Inv-loop μ-loop
+loop-less c = omega arith
+
+loop-again : tie.Need-loop-again Inv-loop μ-loop
+loop-again c = (omega arith, rw (every-turn, c .before .before .before .loop .inv .1, c .column-fits .ensures, c .before .ceiling .ensures))
+
+returns : tie.Need-returns Inv-loop μ-loop
+unfolding countsTest
+returns c =
+    let e : c .before .loop .j ≡ 8 = omega arith in
+    rw e at (c .before .loop .inv .1)
+
+pub counts-fit-spec : {M : Type 1} → statement M
+counts-fit-spec =
+    tie.close
+    (tie.spec
+    Inv-loop
+    μ-loop
+    loop-holds
+    cast-i
+    ceiling-requires
+    column-fits-requires
+    add-j
+    loop-less
+    loop-again
+    returns)
