@@ -1,103 +1,42 @@
 //! The calls on a lent area once more, without a state in between: the bytes
 //! are tested where they stand, and a step changes those that differ. This is
 //! what the library is timed against; [`crate::area`] is the plain one, to
-//! which the tests hold this.
+//! which the tests hold this. It is to be as fast as safe Rust can be on plain
+//! x86-64.
 
 pub mod archives;
+mod formed;
+mod head;
+mod lanes;
+mod records;
 
+use self::formed::head_of;
+use self::head::{links_of, Head};
 use crate::area::{get_station, link_at, put_counts, put_station, station_at};
-use crate::area::{END, ITEM, LINK, LINKS_AT, PLACES, STATION};
-use crate::check::{all_zero, BLOCK};
+use crate::area::{ITEM, LINK, PLACES, STATION};
+use crate::check::BLOCK;
 use crate::header::Header;
 use crate::network::{Answer, Mode, Outcome, Station, Step, AREA, EXTRA_PLACES};
 use crate::record::{Kind, Record, NO_PEER, RECORD};
 use crate::refusal::Refusal;
-use crate::{Counts, LAST_PHASE, MAX_STATIONS};
+use crate::{LAST_PHASE, MAX_STATIONS};
 
 const MESSAGE: u8 = 1;
 const RESET_REQ: u8 = 2;
 const RESET_DONE: u8 = 3;
 
-/// Whether each count is at most its bound.
-fn counts_fit(bytes: &[u8], most: &Counts) -> bool {
-    let (counts, _) = bytes.as_chunks::<2>();
-    counts.iter().zip(most).fold(true, |fit, (&count, &most)| {
-        fit & (u16::from_le_bytes(count) <= most)
-    })
-}
-
-fn places(header: &Header, i: usize, j: usize) -> usize {
-    match header.limits[i][j] {
-        0 => 0,
-        limit => usize::from(limit) + EXTRA_PLACES,
-    }
-}
-
-fn station_fits(bytes: &[u8], header: &Header, i: usize, most: &Counts) -> bool {
-    let limits = &header.limits[i];
-    let marks = |at: usize| {
-        let fit = |fit, (&mark, &limit): (&u8, &u8)| fit & (mark <= limit.min(1));
-        bytes[at..at + 8].iter().zip(limits).fold(true, fit)
-    };
-    let sent = bytes[16..24]
-        .iter()
-        .zip(limits)
-        .fold(true, |fit, (sent, limit)| fit & (sent <= limit));
-    let phase = u32::from_le_bytes([bytes[40], bytes[41], bytes[42], bytes[43]]);
-    let own_entries = u16::from_le_bytes([bytes[44], bytes[45]]);
-    counts_fit(&bytes[..16], most)
-        && sent
-        && marks(24)
-        && marks(32)
-        && phase <= LAST_PHASE
-        && own_entries <= header.allowances[i]
-        && bytes[46] <= 2
-}
-
-fn item_fits(item: &[u8; ITEM], most: &Counts) -> bool {
-    match item[0] {
-        MESSAGE => counts_fit(&item[5..], most),
-        RESET_REQ | RESET_DONE => all_zero(&item[1..]),
-        _ => false,
-    }
-}
-
-fn link_fits(bytes: &[u8], places: usize, most: &Counts) -> bool {
-    let length = usize::from(bytes[0]);
-    if length > places {
-        return false;
-    }
-    let (items, behind) = bytes[1..].split_at(ITEM * length);
-    let (items, _) = items.as_chunks::<ITEM>();
-    all_zero(behind) && items.iter().all(|item| item_fits(item, most))
-}
+type Area = [u8; AREA];
 
 /// The header of an area that is the image of a well-formed state, or 2.
 pub fn test(area: &[u8]) -> Result<Header, Refusal> {
-    let ill = Err(Refusal::IllFormedState);
-    if area.len() != AREA {
-        return ill;
-    }
-    let Ok(header) = Header::read(&area[..BLOCK]) else {
-        return ill;
-    };
-    if header.accept().is_err() {
-        return ill;
-    }
-    let n = header.n();
-    let most = std::array::from_fn(|k| if k < n { header.ceiling } else { 0 });
-    let stations =
-        (0..n).all(|i| station_fits(&area[station_at(i)..][..STATION], &header, i, &most));
-    let links = (0..MAX_STATIONS * MAX_STATIONS).all(|k| {
-        let (i, j) = (k / MAX_STATIONS, k % MAX_STATIONS);
-        link_fits(&area[link_at(i, j)..][..LINK], places(&header, i, j), &most)
-    });
-    let spare = all_zero(&area[station_at(n)..LINKS_AT]) && all_zero(&area[END..]);
-    if stations && links && spare {
-        Ok(header)
-    } else {
-        ill
-    }
+    let area: &Area = area.try_into().map_err(|_| Refusal::IllFormedState)?;
+    let head = head_of(area).ok_or(Refusal::IllFormedState)?;
+    Ok(Header {
+        stations: head.n() as u8,
+        ceiling: head.ceiling(),
+        allowances: std::array::from_fn(|i| head.allowance(i)),
+        limits: head.rows().map(u64::to_le_bytes),
+    })
 }
 
 /// Setup: 11, 1, 3; else the area is the image of the initial network.
@@ -105,22 +44,25 @@ pub fn setup(block: &[u8], area: &mut [u8]) -> Result<(), Refusal> {
     if area.len() != AREA {
         return Err(Refusal::BufferLength);
     }
-    let header = Header::read(block)?;
-    header.accept()?;
-    area.fill(0);
-    area[..BLOCK].copy_from_slice(block);
-    for i in 0..header.n() {
-        let place = &mut area[station_at(i)..][..STATION];
-        put_station(place, &Station::initial(&header, i));
+    let head = Head::of(block)?;
+    head.obeys()?;
+    let (front, rest) = area.split_at_mut(BLOCK);
+    front.copy_from_slice(block);
+    rest.fill(0);
+    // Of an initial station only the dones seen are not zero.
+    for (i, &row) in head.rows()[..head.n()].iter().enumerate() {
+        let dones = &mut area[station_at(i) + 32..][..MAX_STATIONS];
+        dones.copy_from_slice(&links_of(row).to_le_bytes());
     }
     Ok(())
 }
 
 /// Rest on a lent area.
 pub fn rest(area: &[u8]) -> Result<bool, Refusal> {
-    let header = test(area)?;
+    let area: &Area = area.try_into().map_err(|_| Refusal::IllFormedState)?;
+    let head = head_of(area).ok_or(Refusal::IllFormedState)?;
     let phase = |i: usize| &area[station_at(i)..][40..44];
-    Ok((0..header.n()).all(|i| area[station_at(i) + 46] == 0 && phase(i) == phase(0)))
+    Ok((0..head.n()).all(|i| area[station_at(i) + 46] == 0 && phase(i) == phase(0)))
 }
 
 /// A step on a lent area, as [`crate::area::step`].
@@ -128,15 +70,17 @@ pub fn step(area: &mut [u8], event: &mut [u8], step: Step) -> Outcome {
     if event.len() != RECORD {
         return Err(Refusal::BufferLength);
     }
-    let header = test(area)?;
+    let area: &mut Area = area.try_into().map_err(|_| Refusal::IllFormedState)?;
+    let head = head_of(area).ok_or(Refusal::IllFormedState)?;
     let i = step.station();
-    if i >= header.n() {
+    if i >= head.n() {
         return Err(Refusal::NoSuchStationOrLink);
     }
+    let ceiling = head.ceiling();
     let station = get_station(&area[station_at(i)..][..STATION]).ok_or(Refusal::IllFormedState)?;
     let mut at = At {
         area,
-        header,
+        ceiling,
         i,
         station,
     };
@@ -152,15 +96,38 @@ pub fn step(area: &mut [u8], event: &mut [u8], step: Step) -> Outcome {
     Ok(answer)
 }
 
+/// The most items of a link with a limit.
+fn places(limit: u8) -> usize {
+    usize::from(limit) + EXTRA_PLACES
+}
+
 /// A station that steps, by value, and the tested area that it stands in.
 struct At<'a> {
-    area: &'a mut [u8],
-    header: Header,
+    area: &'a mut Area,
+    ceiling: u16,
     i: usize,
     station: Station,
 }
 
 impl At<'_> {
+    /// The limit of the link from i to j; 0 for stations that no table holds.
+    fn limit(&self, i: usize, j: usize) -> u8 {
+        match j < MAX_STATIONS {
+            true => self.area[32 + MAX_STATIONS * i + j],
+            false => 0,
+        }
+    }
+
+    /// The limits of the links out.
+    fn limits(&self) -> [u8; MAX_STATIONS] {
+        std::array::from_fn(|j| self.limit(self.i, j))
+    }
+
+    fn allowance(&self) -> u16 {
+        let at = 16 + 2 * self.i;
+        u16::from_le_bytes([self.area[at], self.area[at + 1]])
+    }
+
     fn link(&mut self, from: usize, to: usize) -> &mut [u8] {
         &mut self.area[link_at(from, to)..][..LINK]
     }
@@ -171,7 +138,7 @@ impl At<'_> {
 
     fn own_count_after(&self) -> Result<u16, Refusal> {
         match self.station.counts[self.i] {
-            own if own < self.header.ceiling => Ok(own + 1),
+            own if own < self.ceiling => Ok(own + 1),
             _ => Err(Refusal::BeyondBound),
         }
     }
@@ -189,7 +156,7 @@ impl At<'_> {
     }
 
     fn enter(&mut self, register: u32) -> Outcome {
-        if self.station.own_entries >= self.header.allowances[self.i] {
+        if self.station.own_entries >= self.allowance() {
             return Err(Refusal::UsedUp);
         }
         self.station.counts[self.i] = self.own_count_after()?;
@@ -199,7 +166,7 @@ impl At<'_> {
 
     fn send(&mut self, j: usize, register: u32) -> Outcome {
         let i = self.i;
-        let limit = self.header.limit(i, j);
+        let limit = self.limit(i, j);
         if limit == 0 {
             return Err(Refusal::NoSuchStationOrLink);
         }
@@ -215,12 +182,11 @@ impl At<'_> {
             return Err(Refusal::UsedUp);
         }
         let own = self.own_count_after()?;
-        let places = places(&self.header, i, j);
         let mut counts = self.station.counts;
         counts[i] = own;
         let link = self.link(i, j);
         let length = usize::from(link[0]);
-        if length >= places {
+        if length >= places(limit) {
             return Err(Refusal::BeyondBound);
         }
         link[0] += 1;
@@ -235,7 +201,7 @@ impl At<'_> {
 
     fn recv(&mut self, j: usize) -> Outcome {
         let i = self.i;
-        if self.header.limit(i, j) == 0 {
+        if self.limit(i, j) == 0 {
             return Err(Refusal::NoSuchStationOrLink);
         }
         let link = self.link(j, i);
@@ -296,8 +262,7 @@ impl At<'_> {
     }
 
     fn every(&self, seen: &[bool; MAX_STATIONS]) -> bool {
-        let limits = &self.header.limits[self.i];
-        limits
+        self.limits()
             .iter()
             .zip(seen)
             .all(|(&limit, &seen)| limit == 0 || seen)
@@ -330,27 +295,35 @@ impl At<'_> {
         if self.station.phase > LAST_PHASE {
             return Err(Refusal::BeyondBound);
         }
-        let i = self.i;
-        let limits = self.header.limits[i];
+        self.put_controls(&controls.kinds[..controls.length])?;
+        self.put(self.i);
+        Ok(Answer::Mode {
+            mode: self.station.mode,
+            phase: self.station.phase,
+        })
+    }
+
+    /// Puts controls on every link out, where all of them have places for it.
+    fn put_controls(&mut self, kinds: &[u8]) -> Result<(), Refusal> {
+        if kinds.is_empty() {
+            return Ok(());
+        }
+        let (i, limits) = (self.i, self.limits());
         let neighbours = (0..MAX_STATIONS).filter(|&j| limits[j] > 0);
         for j in neighbours.clone() {
             let length = usize::from(self.link(i, j)[0]);
-            if length + controls.length > places(&self.header, i, j) {
+            if length + kinds.len() > places(limits[j]) {
                 return Err(Refusal::BeyondBound);
             }
         }
         for j in neighbours {
             let link = self.link(i, j);
-            for &kind in &controls.kinds[..controls.length] {
+            for &kind in kinds {
                 link[1 + ITEM * usize::from(link[0])] = kind;
                 link[0] += 1;
             }
         }
-        self.put(i);
-        Ok(Answer::Mode {
-            mode: self.station.mode,
-            phase: self.station.phase,
-        })
+        Ok(())
     }
 }
 

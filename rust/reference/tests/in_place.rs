@@ -1,10 +1,15 @@
 //! The image of a state, and the calls on a lent area and on an archive in both
 //! ways.
 
-use reference::generate::{any_archive, damaged_archive, mutated_archive, ArchiveDamage};
-use reference::generate::{any_network, any_state, next_step, wild_step, Habits};
+use reference::check::{seal, BLOCK};
+use reference::generate::{admitted_record, any_archive, any_network, any_ranged_header};
+use reference::generate::{any_state, damaged_archive, damaged_header_block};
+use reference::generate::{mutated_archive, next_step, rule_breaker, wild_step};
+use reference::generate::{ArchiveDamage, Habits, HeaderDamage, RuleBreak};
+use reference::header::Header;
 use reference::network::{State, Step, AREA};
 use reference::random::Rng;
+use reference::record::Record;
 use reference::{archive, area, in_place};
 
 const EVENT: [u8; 32] = [0xa5; 32];
@@ -61,6 +66,76 @@ fn what_is_read_is_its_own_image() {
     assert!(images > 100);
 }
 
+/// The test of an area in both ways, of each byte in a range damaged.
+fn both_damaged(bytes: &[u8], range: std::ops::Range<usize>) {
+    for at in range {
+        for value in [0, 1, 2, 3, 33, 128, 255, bytes[at] ^ 1, bytes[at] ^ 128] {
+            let mut bytes = bytes.to_vec();
+            bytes[at] = value;
+            let read = area::read(&bytes).map(|state| state.header);
+            assert_eq!(in_place::test(&bytes), read, "byte {at} is {value}");
+        }
+    }
+}
+
+#[test]
+fn each_byte_of_stations_and_links_is_tested() {
+    for seed in 0..3 {
+        let mut rng = Rng::new(seed);
+        let bytes = area::image(&any_state(&mut rng));
+        both_damaged(&bytes, area::STATIONS_AT..area::LINKS_AT);
+        let link = area::link_at(rng.index(8), rng.index(8));
+        both_damaged(&bytes, link..link + 1 + 2 * area::ITEM);
+        both_damaged(&bytes, area::END - 3..area::END + 3);
+        both_damaged(&bytes, AREA - 3..AREA);
+    }
+}
+
+#[test]
+fn no_byte_behind_the_items_is_skipped() {
+    let mut bytes = area::image(&any_state(&mut Rng::new(5)));
+    let held = |at: usize| {
+        let within = (at - area::LINKS_AT) % area::LINK;
+        at < area::END && within <= area::ITEM * usize::from(bytes[at - within])
+    };
+    let behind: Vec<usize> = (area::LINKS_AT..AREA).filter(|&at| !held(at)).collect();
+    assert!(in_place::test(&bytes).is_ok());
+    for at in behind {
+        bytes[at] = 1;
+        assert!(in_place::test(&bytes).is_err(), "byte {at}");
+        bytes[at] = 0;
+    }
+}
+
+#[test]
+fn where_there_is_no_link_there_is_no_item() {
+    for seed in 0..40 {
+        let header = any_network(&mut Rng::new(seed));
+        let state = State::initial(&header).expect("a network");
+        for k in 0..64 {
+            let mut bytes = area::image(&state);
+            let at = area::link_at(k / 8, k % 8);
+            bytes[at..at + 2].copy_from_slice(&[1, 2]);
+            let read = area::read(&bytes).map(|state| state.header);
+            assert_eq!(in_place::test(&bytes), read);
+        }
+    }
+}
+
+#[test]
+fn an_area_of_another_length_is_refused() {
+    let mut bytes = area::image(&any_state(&mut Rng::new(1)));
+    bytes.push(0);
+    for length in [0, BLOCK, AREA - 1, AREA + 1] {
+        let mut bytes = bytes[..length].to_vec();
+        both(&bytes, Step::Start { station: 0 });
+        assert_eq!(in_place::rest(&bytes), area::rest(&bytes));
+        let block = any_network(&mut Rng::new(1)).to_block_untested();
+        let expected = area::setup(&block, &mut bytes);
+        assert_eq!(in_place::setup(&block, &mut bytes), expected);
+    }
+}
+
 #[test]
 fn steps_in_both_ways() {
     for seed in 0..60 {
@@ -85,15 +160,44 @@ fn steps_in_both_ways() {
     }
 }
 
+/// Setup in both ways: the same answer and area.
+fn both_setups(block: &[u8]) {
+    let (mut plain, mut placed) = (vec![7; AREA], vec![7; AREA]);
+    let answer = area::setup(block, &mut plain);
+    assert_eq!(in_place::setup(block, &mut placed), answer);
+    assert!(plain == placed);
+}
+
 #[test]
 fn setup_in_both_ways() {
-    for seed in 0..50 {
-        let header = any_network(&mut Rng::new(seed));
-        let (mut plain, mut placed) = (vec![7; AREA], vec![9; AREA]);
-        let block = header.to_block_untested();
-        assert_eq!(area::setup(&block, &mut plain), Ok(()));
-        assert_eq!(in_place::setup(&block, &mut placed), Ok(()));
-        assert!(plain == placed);
+    for seed in 0..200 {
+        let mut rng = Rng::new(seed);
+        both_setups(&any_network(&mut rng).to_block_untested());
+        both_setups(&any_ranged_header(&mut rng).to_block_untested());
+        for way in RuleBreak::ALL {
+            both_setups(&rule_breaker(&mut rng, way).to_block_untested());
+        }
+        for way in HeaderDamage::ALL {
+            both_setups(&damaged_header_block(&mut rng, way));
+        }
+    }
+}
+
+/// A block with a byte changed and the check made right again.
+fn resealed(block: &[u8; BLOCK], at: usize, value: u8) -> [u8; BLOCK] {
+    let mut block = *block;
+    block[at] = value;
+    seal(&mut block);
+    block
+}
+
+#[test]
+fn each_byte_of_a_header_is_tested() {
+    let block = any_network(&mut Rng::new(3)).to_block_untested();
+    for at in 0..510 {
+        for value in [0, 1, 2, 8, 9, 32, 33, 128, 255] {
+            both_setups(&resealed(&block, at, value));
+        }
     }
 }
 
@@ -125,6 +229,92 @@ fn archives_in_both_ways() {
         both_archives(&mutated_archive(&mut rng, 60), rng.index(60));
         for way in ArchiveDamage::ALL {
             both_archives(&damaged_archive(&mut rng, way, 40), rng.index(40));
+        }
+    }
+}
+
+/// An archive of so many records that its header admits.
+fn archive_of(rng: &mut Rng, header: &Header, count: usize) -> Vec<u8> {
+    let mut records: Vec<Record> = Vec::new();
+    while records.len() < count {
+        records.extend(admitted_record(rng, header));
+    }
+    archive::build(header, &records).expect("an archive")
+}
+
+#[test]
+fn small_archives_in_both_ways() {
+    for seed in 0..20 {
+        let mut rng = Rng::new(seed);
+        let header = any_network(&mut rng);
+        for count in 0..=46 {
+            let bytes = archive_of(&mut rng, &header, count);
+            assert_eq!(in_place::archives::record_count(&bytes), Ok(count));
+            both_archives(&bytes, rng.index(47));
+        }
+    }
+}
+
+/// Each byte of each block damaged, the check made right again.
+fn both_resealed(bytes: &[u8], values: &[u8]) {
+    let mut bytes = bytes.to_vec();
+    for start in (0..bytes.len()).step_by(BLOCK) {
+        let block: [u8; BLOCK] = bytes[start..][..BLOCK].try_into().expect("a block");
+        for at in 0..510 {
+            for &value in values {
+                bytes[start..][..BLOCK].copy_from_slice(&resealed(&block, at, value));
+                let count = archive::record_count(&bytes);
+                assert_eq!(in_place::archives::record_count(&bytes), count);
+            }
+        }
+        bytes[start..][..BLOCK].copy_from_slice(&block);
+    }
+}
+
+#[test]
+fn each_byte_of_an_archive_is_tested() {
+    for seed in 0..6 {
+        let mut rng = Rng::new(seed);
+        let header = any_ranged_header(&mut rng);
+        let count = rng.pick(&[15, 16, 22, 30]);
+        let bytes = archive_of(&mut rng, &header, count);
+        both_resealed(&bytes, &[0, 1, 2, 3, 7, 8, 15, 33, 128, 254, 255]);
+    }
+}
+
+#[test]
+fn every_front_of_a_record_is_tested() {
+    for seed in 0..4 {
+        let mut rng = Rng::new(seed);
+        let header = any_ranged_header(&mut rng);
+        let mut bytes = archive_of(&mut rng, &header, 1);
+        let (head, block) = bytes.split_at_mut(BLOCK);
+        let mut block: [u8; BLOCK] = (*block).try_into().expect("a block");
+        // Every own count is right, so that the front alone decides.
+        for k in 0..header.n() {
+            block[32 + 2 * k..][..2].copy_from_slice(&[1, 0]);
+        }
+        for front in 0..1 << 15 {
+            let (kind, station, peer) = (front % 8, front >> 3 & 15, front >> 7);
+            block[16..19].copy_from_slice(&[kind as u8, station as u8, peer as u8]);
+            seal(&mut block);
+            let bytes = [&*head, &block].concat();
+            let count = archive::record_count(&bytes);
+            assert_eq!(in_place::archives::record_count(&bytes), count);
+        }
+    }
+}
+
+#[test]
+fn a_wrong_check_is_refused() {
+    for seed in 0..50 {
+        let mut rng = Rng::new(seed);
+        let header = any_network(&mut rng);
+        let bytes = archive_of(&mut rng, &header, 20);
+        for at in 0..bytes.len() {
+            let mut bytes = bytes.clone();
+            bytes[at] ^= 1 << rng.below(8);
+            assert!(in_place::archives::record_count(&bytes).is_err());
         }
     }
 }
