@@ -18,7 +18,7 @@ mod programs;
 
 use std::hint::black_box;
 
-use comparison::library_step;
+use comparison::{judged, library_step};
 use melontime::raw;
 use reference::in_place::{self, archives as placed};
 use reference::network::{Step, AREA};
@@ -131,10 +131,12 @@ fn rest_row(what: &str) {
 fn verdict_row(what: &str) {
     let pairs = inputs::record_pairs(256);
     for (first, second) in &pairs {
-        let expected = order::verdict(first, second).map(|verdict| 100 + verdict as u64);
-        assert_eq!(Ok(raw::verdict(first, second)), expected);
+        let expected = order::verdict(first, second);
+        assert!(expected.is_ok());
+        assert_eq!(raw::verdict(first, second), judged(expected));
+        assert_eq!(in_place::verdict(first, second), expected);
     }
-    let [library, rust, plain] = sides([
+    let [library, rust, place, plain] = sides([
         &mut || {
             for (first, second) in &pairs {
                 black_box(raw::verdict(black_box(first), black_box(second)));
@@ -147,11 +149,16 @@ fn verdict_row(what: &str) {
         },
         &mut || {
             for (first, second) in &pairs {
+                let _ = black_box(in_place::verdict(black_box(first), black_box(second)));
+            }
+        },
+        &mut || {
+            for (first, second) in &pairs {
                 black_box(read(black_box(first)).wrapping_add(read(black_box(second))));
             }
         },
     ]);
-    let others = [Some(rust), None, Some(plain)];
+    let others = [Some(rust), Some(place), Some(plain)];
     print_row(what, pairs.len() as f64, library, others);
 }
 

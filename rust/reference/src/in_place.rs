@@ -21,6 +21,8 @@ use crate::record::{Kind, Record, NO_PEER, RECORD};
 use crate::refusal::Refusal;
 use crate::{LAST_PHASE, MAX_STATIONS};
 
+pub use self::records::verdict;
+
 const MESSAGE: u8 = 1;
 const RESET_REQ: u8 = 2;
 const RESET_DONE: u8 = 3;

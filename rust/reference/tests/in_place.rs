@@ -3,14 +3,14 @@
 
 use reference::check::{seal, BLOCK};
 use reference::generate::{admitted_record, any_archive, any_network, any_ranged_header};
-use reference::generate::{any_state, damaged_archive, damaged_header_block};
-use reference::generate::{mutated_archive, next_step, rule_breaker, wild_step};
+use reference::generate::{any_record, any_state, damaged_archive, damaged_header_block};
+use reference::generate::{mutated_archive, next_step, rule_breaker, spoil_record, wild_step};
 use reference::generate::{ArchiveDamage, Habits, HeaderDamage, RuleBreak};
 use reference::header::Header;
 use reference::network::{State, Step, AREA};
 use reference::random::Rng;
 use reference::record::Record;
-use reference::{archive, area, in_place};
+use reference::{archive, area, in_place, order};
 
 const EVENT: [u8; 32] = [0xa5; 32];
 
@@ -197,6 +197,33 @@ fn each_byte_of_a_header_is_tested() {
     for at in 0..510 {
         for value in [0, 1, 2, 8, 9, 32, 33, 128, 255] {
             both_setups(&resealed(&block, at, value));
+        }
+    }
+}
+
+#[test]
+fn verdicts_in_both_ways() {
+    for seed in 0..20_000 {
+        let mut rng = Rng::new(seed);
+        let (mut first, second) = (any_record(&mut rng), any_record(&mut rng));
+        if rng.chance(3, 4) {
+            first.phase = second.phase;
+        }
+        if rng.chance(1, 8) {
+            first.counts = second.counts;
+        }
+        let mut spoilt = first.to_bytes();
+        spoil_record(&mut rng, &first, &mut spoilt);
+        let mut mutated = first.to_bytes();
+        mutated[rng.index(32)] = rng.below(256) as u8;
+        let second = second.to_bytes();
+        for first in [first.to_bytes(), spoilt, mutated] {
+            for (first, second) in [(first, second), (second, first)] {
+                let expected = order::verdict(&first, &second);
+                assert_eq!(in_place::verdict(&first, &second), expected);
+                let expected = order::verdict(&first[..31], &second);
+                assert_eq!(in_place::verdict(&first[..31], &second), expected);
+            }
         }
     }
 }

@@ -3,7 +3,9 @@
 
 use super::head::{Head, DIAGONAL, ONES};
 use super::lanes::counts_at;
+use crate::order::Verdict;
 use crate::record::{NO_PEER, RECORD};
+use crate::refusal::Refusal;
 use crate::{Counts, LAST_PHASE, MAX_STATIONS};
 
 /// Right fronts, each in its place; elsewhere a number whose place is another.
@@ -124,4 +126,26 @@ pub(super) fn differ(first: &Counts, second: &Counts) -> (bool, bool) {
         above |= first[k].saturating_sub(second[k]);
     }
     (below != 0, above != 0)
+}
+
+/// The verdict on two records' bytes, as [`crate::order::verdict`].
+pub fn verdict(first: &[u8], second: &[u8]) -> Result<Verdict, Refusal> {
+    let (Ok(first), Ok(second)) = (first.try_into(), second.try_into()) else {
+        return Err(Refusal::Malformed);
+    };
+    let mut seen = Seen::default();
+    seen.add(first, &FRONTS);
+    seen.add(second, &FRONTS);
+    if !seen.fits() {
+        return Err(Refusal::Malformed);
+    }
+    if phase_of(first) != phase_of(second) {
+        return Err(Refusal::DifferentPhases);
+    }
+    Ok(match differ(&counts_of(first), &counts_of(second)) {
+        (true, false) => Verdict::Before,
+        (false, true) => Verdict::After,
+        (false, false) => Verdict::Same,
+        (true, true) => Verdict::Unordered,
+    })
 }
