@@ -1,5 +1,6 @@
 //! The bytes and steps that both sides are timed on.
 
+use reference::check::BLOCK;
 use reference::generate::any_register;
 use reference::header::Header;
 use reference::network::{Item, Message, State, Step};
@@ -153,6 +154,22 @@ fn run_records(count: usize) -> Vec<Record> {
 /// An archive of so many records.
 pub fn archive_of(count: usize) -> Vec<u8> {
     archive::build(&complete_network(), &run_records(count)).expect("an archive")
+}
+
+/// Bytes that differ from an archive in their last block only, where a count of
+/// the last record is above t: they are refused once all of them are read.
+pub fn hostile_archive(count: usize) -> Vec<u8> {
+    let mut header = complete_network();
+    header.ceiling = 60_000;
+    let mut records = run_records(count);
+    let right = archive::build(&header, &records).expect("an archive");
+    let last = records.last_mut().expect("a record");
+    last.counts[usize::from(last.station)] = header.ceiling + 1;
+    let records: Vec<_> = records.iter().map(Record::to_bytes).collect();
+    let bytes = archive::build_untested(&header, &records);
+    let before = bytes.len() - BLOCK;
+    assert!(right[..before] == bytes[..before] && right[before..] != bytes[before..]);
+    bytes
 }
 
 /// Pairs of records of one phase.

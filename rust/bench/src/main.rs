@@ -18,7 +18,7 @@ mod programs;
 
 use std::hint::black_box;
 
-use comparison::{judged, library_step};
+use comparison::{counted, judged, library_step};
 use melontime::raw;
 use reference::in_place::{self, archives as placed};
 use reference::network::{Step, AREA};
@@ -28,6 +28,9 @@ use measure::{print_head, print_row, sides};
 
 /// Prints a row with its name.
 type Row = fn(&str);
+
+/// The records of an archive of a MiB.
+const MEBIBYTE_RECORDS: usize = 2047 * 15;
 
 /// The sum of the bytes' words: as plain a read as the compiler can vectorise.
 fn read(bytes: &[u8]) -> u64 {
@@ -162,28 +165,26 @@ fn verdict_row(what: &str) {
     print_row(what, pairs.len() as f64, library, others);
 }
 
-fn archive_row(what: &str) {
-    let bytes = inputs::archive_of(2047 * 15);
-    let expected = archive::record_count(&bytes).expect("an archive");
-    assert_eq!(raw::archive_records(&bytes), 1000 + expected as u64);
-    assert_eq!(placed::record_count(&bytes), Ok(expected));
+/// A row of the test of an archive, which all sides answer alike.
+fn archive_row(what: &str, bytes: &[u8], units: f64) {
+    let expected = archive::record_count(bytes);
+    assert_eq!(raw::archive_records(bytes), counted(expected));
+    assert_eq!(placed::record_count(bytes), expected);
     let [library, rust, place, plain] = sides([
         &mut || {
-            black_box(raw::archive_records(black_box(&bytes)));
+            black_box(raw::archive_records(black_box(bytes)));
         },
         &mut || {
-            let _ = black_box(archive::record_count(black_box(&bytes)));
+            let _ = black_box(archive::record_count(black_box(bytes)));
         },
         &mut || {
-            let _ = black_box(placed::record_count(black_box(&bytes)));
+            let _ = black_box(placed::record_count(black_box(bytes)));
         },
         &mut || {
-            black_box(read(black_box(&bytes)));
+            black_box(read(black_box(bytes)));
         },
     ]);
-    let mebibytes = bytes.len() as f64 / f64::from(1 << 20);
-    let others = [Some(rust), Some(place), Some(plain)];
-    print_row(what, mebibytes, library, others);
+    print_row(what, units, library, [Some(rust), Some(place), Some(plain)]);
 }
 
 fn unordered_row(what: &str, count: usize) {
@@ -217,14 +218,7 @@ fn unordered_row(what: &str, count: usize) {
     print_row(what, count as f64, library, others);
 }
 
-fn main() -> std::io::Result<()> {
-    if programs::is_reference() {
-        return programs::run_reference();
-    }
-    let wanted = std::env::args().nth(1).unwrap_or_default();
-    let is_wanted = |what: &str| what.contains(&wanted);
-    print_head();
-
+fn steps_rows(is_wanted: impl Fn(&str) -> bool) {
     let (idle, busy) = (inputs::idle_area(), inputs::busy_area());
     let lists = [
         ("enter, idle network of eight", &idle, inputs::entries()),
@@ -242,27 +236,68 @@ fn main() -> std::io::Result<()> {
             steps_row(what, from, steps);
         }
     }
-    let calls: [(&str, Row); 4] = [
+}
+
+fn archive_rows(is_wanted: impl Fn(&str) -> bool) {
+    let calls = [
+        ("archive test, a header alone", inputs::archive_of(0)),
+        ("archive test, one block", inputs::archive_of(15)),
+        ("archive test, ten blocks", inputs::archive_of(10 * 15)),
+    ];
+    for (what, bytes) in &calls {
+        if is_wanted(what) {
+            archive_row(what, bytes, 1.0);
+        }
+    }
+    let right = inputs::archive_of(MEBIBYTE_RECORDS);
+    let hostile = inputs::hostile_archive(MEBIBYTE_RECORDS);
+    assert_eq!(right.len(), hostile.len());
+    assert_eq!(raw::archive_records(&hostile), 1);
+    let mebibytes = right.len() as f64 / f64::from(1 << 20);
+    let archives = [
+        ("archive test, per MiB", right),
+        ("archive test, wrong in its last record, per MiB", hostile),
+    ];
+    for (what, bytes) in &archives {
+        if is_wanted(what) {
+            archive_row(what, bytes, mebibytes);
+        }
+    }
+}
+
+fn unordered_rows(is_wanted: impl Fn(&str) -> bool) {
+    let lists = [
+        ("unordered list of 1,000, per record", 1_000),
+        ("unordered list of 10,000, per record", 10_000),
+        ("unordered list of 100,000, per record", 100_000),
+        ("unordered list of 1,000,000, per record", 1_000_000),
+    ];
+    for (what, count) in lists {
+        if is_wanted(what) {
+            unordered_row(what, count);
+        }
+    }
+}
+
+fn main() -> std::io::Result<()> {
+    if programs::is_reference() {
+        return programs::run_reference();
+    }
+    let wanted = std::env::args().nth(1).unwrap_or_default();
+    let is_wanted = |what: &str| what.contains(&wanted);
+    print_head();
+    steps_rows(is_wanted);
+    let calls: [(&str, Row); 3] = [
         ("rest, idle network of eight", rest_row),
         ("setup", setup_row),
         ("verdict", verdict_row),
-        ("archive test, per MiB", archive_row),
     ];
     for (what, row) in calls {
         if is_wanted(what) {
             row(what);
         }
     }
-    let archives = [
-        ("unordered list of 1,000, per record", 1_000),
-        ("unordered list of 10,000, per record", 10_000),
-        ("unordered list of 100,000, per record", 100_000),
-        ("unordered list of 1,000,000, per record", 1_000_000),
-    ];
-    for (what, count) in archives {
-        if is_wanted(what) {
-            unordered_row(what, count);
-        }
-    }
+    archive_rows(is_wanted);
+    unordered_rows(is_wanted);
     programs::turnover_rows(&wanted)
 }
