@@ -22,14 +22,19 @@ fn median(times: &mut [f64]) -> f64 {
     times[times.len() / 2]
 }
 
+/// How many calls a round has. The least of some tries counts, so that a
+/// disturbance does not make every round short.
+fn calls_of(side: &mut dyn FnMut()) -> u32 {
+    let once = time(1, side).max(1.0);
+    let calls = (1e6 / once) as u32 + 1;
+    let once = (0..5).map(|_| time(calls, side)).fold(f64::MAX, f64::min);
+    (ROUND_NANOSECONDS / once.max(1.0)) as u32 + 1
+}
+
 /// The median time of a call of each side, in nanoseconds. The sides take turns
 /// in every round, so that a change of the machine's pace meets all of them.
 pub fn sides<const N: usize>(mut sides: [&mut dyn FnMut(); N]) -> [f64; N] {
-    let calls = sides.each_mut().map(|side| {
-        let once = time(1, side).max(1.0);
-        let once = time((1e6 / once) as u32 + 1, side).max(1.0);
-        (ROUND_NANOSECONDS / once) as u32 + 1
-    });
+    let calls = sides.each_mut().map(|side| calls_of(side));
     let mut times: [Vec<f64>; N] = std::array::from_fn(|_| Vec::new());
     for _ in 0..ROUNDS {
         for ((side, &calls), times) in sides.iter_mut().zip(&calls).zip(&mut times) {
