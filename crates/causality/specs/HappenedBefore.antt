@@ -5,7 +5,7 @@ use mathlib.Core.List.{List, [], _∷_}
 use mathlib.Core.Bool.{Bool, true, false, cond, _&&_}
 use lib.Dec.{eqb}
 use lib.ListN.{getD, length}
-use Rattle.reset.specs.Steps.{Step, enter, send, recv, start, Entry, Answer, refused, entry, modeAfter}
+use Rattle.reset.specs.Steps.{Step, enter, send, recv, start, stationOfStep, Entry, Answer, refused, entry, modeAfter}
 use Rattle.reset.specs.Network.{Answered}
 
 -- An accepted entry: its step, and the record that was its answer.
@@ -27,12 +27,12 @@ accepted (x ∷ l) = withEntry (x .step) (x .answer) (accepted l)
 abbrev pub noEntry : Accepted
 noEntry = record { step = start 0; entry = record { kind = 0; station = 0; peer = 0; phase = 0; register = 0; counts = [] } }
 
--- entry x: its step and record; its station, phase and timestamp
+-- entry x: its step and record; the station that took the step; the record's phase and timestamp
 abbrev pub entryAt : List Accepted → ℕ → Accepted
 entryAt E x = getD E x noEntry
 
 abbrev pub stationOf : List Accepted → ℕ → ℕ
-stationOf E x = entryAt E x .entry .station
+stationOf E x = stationOfStep (entryAt E x .step)
 
 abbrev pub phaseOf : List Accepted → ℕ → ℕ
 phaseOf E x = entryAt E x .entry .phase

@@ -22,9 +22,9 @@ use Rattle.reset.specs.Invariant.{Invariant}
 use Rattle.reset.specs.Summary.{step-keeps, summary}
 use Rattle.reset.specs.Runs.{initial-station, initial-waiting, initial-invariant}
 use Rattle.causality.specs.Plain.{Message}
-use Rattle.causality.specs.HappenedBefore.{Accepted, withEntry, accepted, noEntry, entryAt, stationOf, phaseOf, timestampOf, isSend, isRecv, count, GoesWith}
+use Rattle.causality.specs.HappenedBefore.{Accepted, withEntry, accepted, noEntry, entryAt, phaseOf, timestampOf, isSend, isRecv, count, GoesWith}
 use Rattle.causality.specs.Sound.{firstMessage, taken, withTaken, takens}
-use Rattle.causality.specs.Trace.{isOf, lastOf, countsBefore, those, underWay, Follows, own, sent, received}
+use Rattle.causality.specs.Trace.{recordStation, isOf, lastOf, countsBefore, those, underWay, Follows, own, sent, received}
 use Rattle.causality.specs.TraceLaws.{drop-head, those-length, Nth, those-nth, fewer, stays-under-way, sent-under-way, first-under-way}
 
 -- a send's message as a link has it, with the phase that it was sent in
@@ -35,17 +35,17 @@ tagOf x = record { phase = x .entry .phase; load = x .entry .counts; register = 
 pub record History (c : Config) (E : List Accepted) (T : List (List Message)) (s : State vector) (m : ℕ) : Type 0 where
   -- a station's counts are those of its last entry in its phase; no entry of it is of a later phase
   pub times : (i : ℕ) → i < c .n → stationAt s i .time ≡ lastOf E i (stationAt s i .phase) m
-  pub above : (x : ℕ) → x < m → phaseOf E x ≤ stationAt s (stationOf E x) .phase
+  pub above : (x : ℕ) → x < m → phaseOf E x ≤ stationAt s (recordStation E x) .phase
   -- a link's messages are those under way; none was sent where there is no link
   pub links : (a b : ℕ) → neighbours c a b ≡ true → map tagOf (underWay E a b m) ≡ waiting s a b
   pub unlinked : (a b : ℕ) → neighbours c a b ≡ false → those (isSend a b) E m ≡ []
   -- the entries so far are a trace
   pub follows : (y : ℕ) → y < m → Follows E T y
-  pub inside : (y : ℕ) → y < m → stationOf E y < c .n
-  pub phases : (x y : ℕ) → x < y → y < m → stationOf E x ≡ stationOf E y → phaseOf E x ≤ phaseOf E y
+  pub inside : (y : ℕ) → y < m → recordStation E y < c .n
+  pub phases : (x y : ℕ) → x < y → y < m → recordStation E x ≡ recordStation E y → phaseOf E x ≤ phaseOf E y
 
 -- ---- no entry
-last-none : (E : List Accepted) (i f m : ℕ) → ((x : ℕ) → x < m → stationOf E x ≡ i → phaseOf E x ≡ f → ⊥) → lastOf E i f m ≡ zeros
+last-none : (E : List Accepted) (i f m : ℕ) → ((x : ℕ) → x < m → recordStation E x ≡ i → phaseOf E x ≡ f → ⊥) → lastOf E i f m ≡ zeros
 last-none E i f zero h = refl
 last-none E i f (suc m) h = go (isOf i f (entryAt E m)) refl (last-none E i f m (λ x l. h x (omega arith)))
   where
@@ -62,7 +62,7 @@ module _ (c : Config) (E : List Accepted) (T : List (List Message)) (s s′ : St
   quiet-history i p w q =
       record {
         times = λ k l. go k (q .moves k) (h .times k l);
-        above = λ x l. omega (arith, h .above x l, move-up _ _ (q .moves (stationOf E x)));
+        above = λ x l. omega (arith, h .above x l, move-up _ _ (q .moves (recordStation E x)));
         links = λ a b n. h .links a b n ∙ sym (q .unmoved a b n);
         unlinked = h .unlinked;
         follows = h .follows;
@@ -80,15 +80,15 @@ module _ (c : Config) (E : List Accepted) (T : List (List Message)) (s s′ : St
   module _ (u : Rules c) (ml : m < length E) (en : Enters c s (entryAt E m .step) (entryAt E m .entry) s′) (te : getD T m [] ≡ taken s (entryAt E m .step)) where
     -- how a step p makes it
     abbrev Way : Step → Type 0
-    Way p = How c s p (entryAt E m .entry) (stationAt s′ (stationOf E m) .time)
+    Way p = How c s p (entryAt E m .entry) (stationAt s′ (recordStation E m) .time)
 
-    before : stationAt s (stationOf E m) .time ≡ countsBefore E m
-    before = h .times (stationOf E m) (en .station-in) ∙ ap (λ (f : ℕ). lastOf E (stationOf E m) f m) (sym (en .phase-is))
+    before : stationAt s (recordStation E m) .time ≡ countsBefore E m
+    before = h .times (recordStation E m) (en .station-in) ∙ ap (λ (f : ℕ). lastOf E (recordStation E m) f m) (sym (en .phase-is))
 
     -- own count +1
-    ticked : (i : ℕ) → stationOf E m ≡ i → stationAt s′ (stationOf E m) .time ≡ tick i (stationAt s i .time)
-        → timestampOf E m ≡ tick (stationOf E m) (countsBefore E m)
-    ticked i e t = en .counts-are ∙ t ∙ ap (λ (k : ℕ). tick k (stationAt s k .time)) (sym e) ∙ ap (tick (stationOf E m)) before
+    ticked : (i : ℕ) → recordStation E m ≡ i → stationAt s′ (recordStation E m) .time ≡ tick i (stationAt s i .time)
+        → timestampOf E m ≡ tick (recordStation E m) (countsBefore E m)
+    ticked i e t = en .counts-are ∙ t ∙ ap (λ (k : ℕ). tick k (stationAt s k .time)) (sym e) ∙ ap (tick (recordStation E m)) before
 
     -- the message that a receipt takes
     abbrev got : (i j : ℕ) → Way (recv i j) → Tagged vector
@@ -146,7 +146,7 @@ module _ (c : Config) (E : List Accepted) (T : List (List Message)) (s s′ : St
         ∙ ap {B = List Message} (λ (t : Tagged vector). record { counts = t .load; register = t .register } ∷ []) (sym tx))
         (en .counts-are ∙ w .time-is ∙ ap (λ (v : List ℕ). raised i (stationAt s i .time) v) (sym (ap (λ (t : Tagged vector). t .load) tx))
         ∙ ap (λ (k : ℕ). raised k (stationAt s k .time) (timestampOf E x)) (sym (w .station-is))
-        ∙ ap (λ (v : List ℕ). raised (stationOf E m) v (timestampOf E x)) before)
+        ∙ ap (λ (v : List ℕ). raised (recordStation E m) v (timestampOf E x)) before)
     new-follows (start i) e w = absurd w
 
     -- ---- the links after it
@@ -203,31 +203,31 @@ module _ (c : Config) (E : List Accepted) (T : List (List Message)) (s s′ : St
     new-unlinked (start i) e w a b n = rw e
 
     -- ---- the stations after it
-    new-times : (k : ℕ) → k < c .n → Dec (stationOf E m ≡ k) → stationAt s′ k .time ≡ lastOf E k (stationAt s′ k .phase) (suc m)
+    new-times : (k : ℕ) → k < c .n → Dec (recordStation E m ≡ k) → stationAt s′ k .time ≡ lastOf E k (stationAt s′ k .phase) (suc m)
     new-times k l (yes e) =
         let p : phaseOf E m ≡ stationAt s′ k .phase = rw (← e) (en .phase-is ∙ sym (en .phase-same)) in
-        rw (eq-eqb (phaseOf E m) (stationAt s′ k .phase) p, eq-eqb (stationOf E m) k e) (rw (← e) (sym (en .counts-are)))
+        rw (eq-eqb (phaseOf E m) (stationAt s′ k .phase) p, eq-eqb (recordStation E m) k e) (rw (← e) (sym (en .counts-are)))
     new-times k l (no e) =
-        rw (en .others k (λ q. e (sym q)), ne-eqb (stationOf E m) k e, and-false (eqb (phaseOf E m) (stationAt s k .phase))) (h .times k l)
+        rw (en .others k (λ q. e (sym q)), ne-eqb (recordStation E m) k e, and-false (eqb (phaseOf E m) (stationAt s k .phase))) (h .times k l)
 
-    same-phase : (k : ℕ) → Dec (k ≡ stationOf E m) → stationAt s′ k .phase ≡ stationAt s k .phase
+    same-phase : (k : ℕ) → Dec (k ≡ recordStation E m) → stationAt s′ k .phase ≡ stationAt s k .phase
     same-phase k (yes e) = rw e (en .phase-same)
     same-phase k (no e) = ap (λ (x : Station vector). x .phase) (en .others k e)
 
-    new-above : (x : ℕ) → x < suc m → Dec (x ≡ m) → phaseOf E x ≤ stationAt s′ (stationOf E x) .phase
+    new-above : (x : ℕ) → x < suc m → Dec (x ≡ m) → phaseOf E x ≤ stationAt s′ (recordStation E x) .phase
     new-above x l (yes e) = rw e (omega (arith, en .phase-is, en .phase-same))
-    new-above x l (no e) = omega (arith, h .above x (omega arith), same-phase (stationOf E x) (ℕ-discrete (stationOf E x) (stationOf E m)))
+    new-above x l (no e) = omega (arith, h .above x (omega arith), same-phase (recordStation E x) (ℕ-discrete (recordStation E x) (recordStation E m)))
 
-    new-phases : (x y : ℕ) → x < y → y < suc m → stationOf E x ≡ stationOf E y → Dec (y ≡ m) → phaseOf E x ≤ phaseOf E y
+    new-phases : (x y : ℕ) → x < y → y < suc m → recordStation E x ≡ recordStation E y → Dec (y ≡ m) → phaseOf E x ≤ phaseOf E y
     new-phases x y l k e (yes q) =
-        let a : phaseOf E x ≤ stationAt s (stationOf E m) .phase = rw (e ∙ ap (stationOf E) q) at (h .above x (omega arith)) in
+        let a : phaseOf E x ≤ stationAt s (recordStation E m) .phase = rw (e ∙ ap (recordStation E) q) at (h .above x (omega arith)) in
         rw q (omega (arith, en .phase-is))
     new-phases x y l k e (no q) = h .phases x y l (omega arith) e
 
     entry-history : History c E T s′ (suc m)
     entry-history =
         record {
-          times = λ k l. new-times k l (ℕ-discrete (stationOf E m) k);
+          times = λ k l. new-times k l (ℕ-discrete (recordStation E m) k);
           above = λ x l. new-above x l (ℕ-discrete x m);
           links = new-links (entryAt E m .step) refl (en .how);
           unlinked = λ a b n. rw (new-unlinked (entryAt E m .step) refl (en .how) a b n) (append-nil _ ∙ h .unlinked a b n);
@@ -240,7 +240,7 @@ module _ (c : Config) (E : List Accepted) (T : List (List Message)) (s s′ : St
         new-follows′ y l (yes e) = rw e (new-follows (entryAt E m .step) refl (en .how))
         new-follows′ y l (no e) = h .follows y (omega arith)
 
-        new-inside : (y : ℕ) → y < suc m → Dec (y ≡ m) → stationOf E y < c .n
+        new-inside : (y : ℕ) → y < suc m → Dec (y ≡ m) → recordStation E y < c .n
         new-inside y l (yes e) = rw e (en .station-in)
         new-inside y l (no e) = h .inside y (omega arith)
 

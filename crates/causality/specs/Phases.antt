@@ -13,8 +13,9 @@ use Rattle.reset.specs.Config.{Config, neighbours}
 use Rattle.reset.specs.ConfigLaws.{Rules}
 use Rattle.reset.specs.Clock.{Clock, vector}
 use Rattle.reset.specs.State.{Item, message, resetReq, resetDone, Station, State, stationAt, linkAt}
-use Rattle.reset.specs.Steps.{Step, Answer, refused, entry, modeAfter, step}
+use Rattle.reset.specs.Steps.{Step, stationOfStep, Answer, refused, entry, modeAfter, step}
 use Rattle.reset.specs.Network.{initial, log, run}
+use Rattle.reset.specs.StepLaws.{Taker, answers-taker}
 use Rattle.reset.specs.Progress.{asked}
 use Rattle.reset.specs.Changes.{Tagged, tags, Summary}
 use Rattle.reset.specs.Invariant.{Invariant}
@@ -28,14 +29,15 @@ use Rattle.causality.specs.History.{tagOf, run-history}
 
 module _ {K : Clock} (c : Config) (i : ℕ) where
   -- one step
-  phase-in : (s s′ : State K) (p : Step) (a : Answer) → Summary c s p a s′ → phaseIn i a (stationAt s i .phase) ≡ stationAt s′ i .phase
-  phase-in s s′ p (refused k) h = rw h
-  phase-in s s′ p (entry e) h = go (eqb (e .station) i) refl
+  phase-in : (s s′ : State K) (p : Step) (a : Answer) → Taker p a → Summary c s p a s′
+      → phaseIn (eqb (stationOfStep p) i) a (stationAt s i .phase) ≡ stationAt s′ i .phase
+  phase-in s s′ p (refused k) w h = rw h
+  phase-in s s′ p (entry e) w h = rw (← w) (go (eqb (e .station) i) refl)
     where
       go : (t : Bool) → eqb (e .station) i ≡ t → cond t (e .phase) (stationAt s i .phase) ≡ stationAt s′ i .phase
       go true q = rw (← eqb-true (e .station) i q) (h .phase-is ∙ sym (h .phase-same))
       go false q = ap (λ (x : Station K). x .phase) (sym (h .others i (λ z. eqb-false _ _ q (sym z))))
-  phase-in s s′ p (modeAfter j m f) h = go (eqb j i) refl
+  phase-in s s′ p (modeAfter j m f) w h = rw (← w) (go (eqb j i) refl)
     where
       go : (t : Bool) → eqb j i ≡ t → cond t f (stationAt s i .phase) ≡ stationAt s′ i .phase
       go true q = rw (← eqb-true j i q) (sym (h .phase-is))
@@ -44,7 +46,7 @@ module _ {K : Clock} (c : Config) (i : ℕ) where
   phase-from : Rules c → (s : State K) → Invariant c s → (ps : List Step) → phaseFrom i (stationAt s i .phase) (log c s ps) ≡ stationAt (run c s ps) i .phase
   phase-from u s v [] = refl
   phase-from u s v (p ∷ ps) =
-      ap (λ (f : ℕ). phaseFrom i f (log c (step c s p .after) ps)) (phase-in s (step c s p .after) p (step c s p .answer) (summary c u s v p))
+      ap (λ (f : ℕ). phaseFrom i f (log c (step c s p .after) ps)) (phase-in s (step c s p .after) p (step c s p .answer) (answers-taker c s p) (summary c u s v p))
       ∙ phase-from u (step c s p .after) (step-keeps c u s v p) ps
 
 -- after every list of steps from the initial network

@@ -3,14 +3,14 @@ use Prim.Native.Nat.{ℕ, _<_}
 use mathlib.Core.Path.{_≡_}
 use mathlib.Core.Logic.{_↔_}
 use mathlib.Core.List.{List, [], _∷_}
-use mathlib.Core.Bool.{true, cond}
+use mathlib.Core.Bool.{Bool, true, cond}
 use lib.Dec.{eqb}
 use lib.ListN.{getD, length}
 use Rattle.clock.specs.Timestamp.{Less}
 use Rattle.reset.specs.Config.{Config, wellMade, networkRules}
 use Rattle.reset.specs.Clock.{vector}
 use Rattle.reset.specs.State.{Item, message, resetReq, resetDone, State, linkAt}
-use Rattle.reset.specs.Steps.{Step, enter, send, recv, start, Answer, refused, entry, modeAfter, step}
+use Rattle.reset.specs.Steps.{Step, enter, send, recv, start, stationOfStep, Answer, refused, entry, modeAfter, step}
 use Rattle.reset.specs.Network.{initial, Answered, log}
 use Rattle.causality.specs.Plain.{Message, plainInitial, Told, told, plainTold, plainAfter, fed}
 use Rattle.causality.specs.HappenedBefore.{Accepted, accepted, entryAt, phaseOf, timestampOf, isRecv, GoesWith, HappenedBefore}
@@ -66,14 +66,15 @@ RunsPlain l T = (f : ℕ) → plainTold plainInitial (fed f l) ≡ toldOf f (acc
 
 -- ---- 4. When every station has left a phase, all links of that phase's plain network are empty.
 -- a station's phase after a list is that in the answer to its last accepted step, 0 where it has none
-abbrev pub phaseIn : ℕ → Answer → ℕ → ℕ
-phaseIn i (refused k) f = f
-phaseIn i (entry e) f = cond (eqb (e .station) i) (e .phase) f
-phaseIn i (modeAfter j m p) f = cond (eqb j i) p f
+-- an answer's phase, of a step that station i took or did not; else f
+abbrev pub phaseIn : Bool → Answer → ℕ → ℕ
+phaseIn taken (refused k) f = f
+phaseIn taken (entry e) f = cond taken (e .phase) f
+phaseIn taken (modeAfter j m p) f = cond taken p f
 
 abbrev pub phaseFrom : ℕ → ℕ → List Answered → ℕ
 phaseFrom i f [] = f
-phaseFrom i f (x ∷ l) = phaseFrom i (phaseIn i (x .answer) f) l
+phaseFrom i f (x ∷ l) = phaseFrom i (phaseIn (eqb (stationOfStep (x .step)) i) (x .answer) f) l
 
 abbrev pub phaseAfter : ℕ → List Answered → ℕ
 phaseAfter i l = phaseFrom i 0 l

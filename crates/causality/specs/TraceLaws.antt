@@ -12,8 +12,8 @@ use borrow.Author.Tests.{eqb-true}
 use Rattle.codec.proofs.EveryLaws.{both}
 use Rattle.reset.specs.Steps.{Step, enter, send, recv, start}
 use Rattle.causality.specs.Plain.{Message}
-use Rattle.causality.specs.HappenedBefore.{Accepted, entryAt, stationOf, isSend, isRecv, count, GoesWith}
-use Rattle.causality.specs.Trace.{those, underWay, Follows, own, sent, received}
+use Rattle.causality.specs.HappenedBefore.{Accepted, entryAt, isSend, isRecv, count, GoesWith}
+use Rattle.causality.specs.Trace.{recordStation, those, underWay, Follows, own, sent, received}
 
 -- ---- the next of a list
 pub drop-head : {A : Type 0} (l : List A) (m : ℕ) (x : A) (r : List A) → drop m l ≡ x ∷ r → (d : A) → (getD l m d ≡ x) × (drop (suc m) l ≡ r)
@@ -110,8 +110,8 @@ fewer E T a b (suc m) f = go (f m (omega arith)) (isRecv a b (entryAt E m .step)
     go : Follows E T m → (t : Bool) → isRecv a b (entryAt E m .step) ≡ t → count (isRecv a b) E m ≤ count (isSend a b) E m
         → count (isRecv a b) E m + cond t 1 0 ≤ count (isSend a b) E m + cond (isSend a b (entryAt E m .step)) 1 0
     go r false e h = omega arith
-    go (own g s t z) true e h = own-no-recv a b (entryAt E m .step) e (stationOf E m) g s
-    go (sent j s t z) true e h = send-no-recv a b (entryAt E m .step) e (stationOf E m) j _ s
+    go (own g s t z) true e h = own-no-recv a b (entryAt E m .step) e (recordStation E m) g s
+    go (sent j s t z) true e h = send-no-recv a b (entryAt E m .step) e (recordStation E m) j _ s
     go (received j x s xl g p t z) true e h =
         let k = goes-on E x m a b g e in
         let u : count (isSend a b) E x + 1 ≤ count (isSend a b) E m = rw (k .0) at (count-up (isSend a b) E x m xl) in

@@ -13,9 +13,9 @@ use Rattle.codec.proofs.EveryLaws.{both}
 use Rattle.clock.specs.Timestamp.{tick, raised}
 use Rattle.reset.specs.Steps.{enter, send, recv}
 use Rattle.causality.specs.Plain.{Message, Plain, plainInitial, at₁, at₂, Result, nothing, gives, plainTake, plainStep, Told, stuck, told, plainTold, plainAfter}
-use Rattle.causality.specs.HappenedBefore.{Accepted, noEntry, entryAt, stationOf, phaseOf, timestampOf, isSend, isRecv, GoesWith}
+use Rattle.causality.specs.HappenedBefore.{Accepted, noEntry, entryAt, phaseOf, timestampOf, isSend, isRecv, GoesWith}
 use Rattle.causality.specs.Sound.{sentMessage, toldOf}
-use Rattle.causality.specs.Trace.{lastOf, countsBefore, underWay, fedOf, Follows, own, sent, received, Trace}
+use Rattle.causality.specs.Trace.{recordStation, lastOf, countsBefore, underWay, fedOf, Follows, own, sent, received, Trace}
 use Rattle.causality.specs.TraceLaws.{own-no-recv, send-no-recv, goes-on, fewer, drop-head, stays-under-way, sent-under-way, first-under-way}
 
 -- ---- of phase f alone
@@ -49,8 +49,8 @@ module _ (E : List Accepted) (T : List (List Message)) (R : Trace E T) (f : ℕ)
   skipped m l n w a b true false hs hr =
       ap (messagesOf f) (sent-under-way E a b m hs hr (fewer E T a b m (λ y yl. R .follows y (omega arith))))
       ∙ messages-append f (underWay E a b m) _ ∙ ap (λ (k : List Message). messagesOf f (underWay E a b m) ++ k) (other-phase (entryAt E m) [] n) ∙ append-nil _
-  skipped m l n (own g e t z) a b s true hs hr = own-no-recv a b (entryAt E m .step) hr (stationOf E m) g e
-  skipped m l n (sent j e t z) a b s true hs hr = send-no-recv a b (entryAt E m .step) hr (stationOf E m) j _ e
+  skipped m l n (own g e t z) a b s true hs hr = own-no-recv a b (entryAt E m .step) hr (recordStation E m) g e
+  skipped m l n (sent j e t z) a b s true hs hr = send-no-recv a b (entryAt E m .step) hr (recordStation E m) j _ e
   skipped m l n (received j x e xl g p t z) a b true true hs hr = absurd (true≢false (sym (rw e at hs)))
   skipped m l n (received j x e xl g p t z) a b false true hs hr =
       let k = goes-on E x m a b g hr in
@@ -68,26 +68,26 @@ module _ (E : List Accepted) (T : List (List Message)) (R : Trace E T) (f : ℕ)
   Does m P = (Q : Plain) × (plainStep P (entryAt E m .step) ≡ gives (timestampOf E m) (getD T m []) Q) × Stands E f (suc m) Q
 
   module _ (m : ℕ) (P : Plain) (l : m < length E) (p : phaseOf E m ≡ f) (h : Stands E f m P) where
-    before : P .counts (stationOf E m) ≡ countsBefore E m
-    before = h .counts (stationOf E m) ∙ ap (λ (g : ℕ). lastOf E (stationOf E m) g m) (sym p)
+    before : P .counts (recordStation E m) ≡ countsBefore E m
+    before = h .counts (recordStation E m) ∙ ap (λ (g : ℕ). lastOf E (recordStation E m) g m) (sym p)
 
-    counted : (k : ℕ) → at₁ (P .counts) (stationOf E m) (timestampOf E m) k ≡ lastOf E k f (suc m)
+    counted : (k : ℕ) → at₁ (P .counts) (recordStation E m) (timestampOf E m) k ≡ lastOf E k f (suc m)
     unfolding at₁
     counted k = rw (eq-eqb (phaseOf E m) f p, h .counts k)
 
-    does-own : (g : ℕ) → entryAt E m .step ≡ enter (stationOf E m) g → getD T m [] ≡ [] → timestampOf E m ≡ tick (stationOf E m) (countsBefore E m) → Does m P
+    does-own : (g : ℕ) → entryAt E m .step ≡ enter (recordStation E m) g → getD T m [] ≡ [] → timestampOf E m ≡ tick (recordStation E m) (countsBefore E m) → Does m P
     does-own g e t z = (
-      record { counts = at₁ (P .counts) (stationOf E m) (timestampOf E m); queue = P .queue },
+      record { counts = at₁ (P .counts) (recordStation E m) (timestampOf E m); queue = P .queue },
       rw (e, t)
-          (ap (λ (v : List ℕ). gives v [] (record { counts = at₁ (P .counts) (stationOf E m) v; queue = P .queue })) (ap (tick (stationOf E m)) before ∙ sym z)),
+          (ap (λ (v : List ℕ). gives v [] (record { counts = at₁ (P .counts) (recordStation E m) v; queue = P .queue })) (ap (tick (recordStation E m)) before ∙ sym z)),
       record { counts = counted; queues = λ a b. h .queues a b ∙ sym (ap (messagesOf f) (stays-under-way E a b m (rw e) (rw e))) },
     )
 
-    does-send : (j : ℕ) → entryAt E m .step ≡ send (stationOf E m) j (entryAt E m .entry .register) → getD T m [] ≡ []
-        → timestampOf E m ≡ tick (stationOf E m) (countsBefore E m) → Does m P
+    does-send : (j : ℕ) → entryAt E m .step ≡ send (recordStation E m) j (entryAt E m .entry .register) → getD T m [] ≡ []
+        → timestampOf E m ≡ tick (recordStation E m) (countsBefore E m) → Does m P
     unfolding at₂
     does-send j e t z =
-        let i = stationOf E m in
+        let i = recordStation E m in
         let after : List ℕ → Plain = λ v.
         record { counts = at₁ (P .counts) i v; queue = at₂ (P .queue) i j (P .queue i j ++ (record { counts = v; register = entryAt E m .entry .register } ∷ [])) } in (
           after (timestampOf E m),
@@ -95,20 +95,20 @@ module _ (E : List Accepted) (T : List (List Message)) (R : Trace E T) (f : ℕ)
           record { counts = counted; queues = λ a b. go a b (eqb i a && eqb j b) refl },
         )
       where
-        go : (a b : ℕ) (c : Bool) → (eqb (stationOf E m) a && eqb j b) ≡ c
-            → cond c (P .queue (stationOf E m) j ++ (sentMessage (entryAt E m) ∷ [])) (P .queue a b) ≡ messagesOf f (underWay E a b (suc m))
+        go : (a b : ℕ) (c : Bool) → (eqb (recordStation E m) a && eqb j b) ≡ c
+            → cond c (P .queue (recordStation E m) j ++ (sentMessage (entryAt E m) ∷ [])) (P .queue a b) ≡ messagesOf f (underWay E a b (suc m))
         go a b true c =
-            let k = both (eqb (stationOf E m) a) _ c in
+            let k = both (eqb (recordStation E m) a) _ c in
             let u = sent-under-way E a b m (rw (e, c)) (rw e) (fewer E T a b m (λ y yl. R .follows y (omega arith))) in
-            rw (u, eqb-true (stationOf E m) a (k .0), eqb-true j b (k .1), h .queues a b)
+            rw (u, eqb-true (recordStation E m) a (k .0), eqb-true j b (k .1), h .queues a b)
             (sym (messages-append f (underWay E a b m) _ ∙ rw (eq-eqb (phaseOf E m) f p)))
         go a b false c = h .queues a b ∙ sym (ap (messagesOf f) (stays-under-way E a b m (rw (e, c)) (rw e)))
 
-    does-receive : (j x : ℕ) → entryAt E m .step ≡ recv (stationOf E m) j → x < m → GoesWith E x m → phaseOf E x ≡ phaseOf E m
-        → getD T m [] ≡ sentMessage (entryAt E x) ∷ [] → timestampOf E m ≡ raised (stationOf E m) (countsBefore E m) (timestampOf E x) → Does m P
+    does-receive : (j x : ℕ) → entryAt E m .step ≡ recv (recordStation E m) j → x < m → GoesWith E x m → phaseOf E x ≡ phaseOf E m
+        → getD T m [] ≡ sentMessage (entryAt E x) ∷ [] → timestampOf E m ≡ raised (recordStation E m) (countsBefore E m) (timestampOf E x) → Does m P
     unfolding at₂
     does-receive j x e xl g q t z =
-        let i = stationOf E m in
+        let i = recordStation E m in
         let rest = messagesOf f (underWay E j i (suc m)) in
         let after : List ℕ → Plain = λ v. record { counts = at₁ (P .counts) i v; queue = at₂ (P .queue) j i rest } in (
           after (timestampOf E m),
@@ -121,14 +121,14 @@ module _ (E : List Accepted) (T : List (List Message)) (R : Trace E T) (f : ℕ)
         taken : (a b : ℕ) → isRecv a b (entryAt E m .step) ≡ true → underWay E a b m ≡ entryAt E x ∷ underWay E a b (suc m)
         taken a b r = let k = goes-on E x m a b g r in first-under-way E a b m x (rw e) r xl (k .0) (k .1)
 
-        first : P .queue j (stationOf E m) ≡ sentMessage (entryAt E x) ∷ messagesOf f (underWay E j (stationOf E m) (suc m))
+        first : P .queue j (recordStation E m) ≡ sentMessage (entryAt E x) ∷ messagesOf f (underWay E j (recordStation E m) (suc m))
         first =
-            h .queues j (stationOf E m) ∙ ap (messagesOf f) (taken j (stationOf E m) (rw (e, eq-eqb j j refl, eq-eqb (stationOf E m) (stationOf E m) refl)))
+            h .queues j (recordStation E m) ∙ ap (messagesOf f) (taken j (recordStation E m) (rw (e, eq-eqb j j refl, eq-eqb (recordStation E m) (recordStation E m) refl)))
             ∙ rw (eq-eqb (phaseOf E x) f (q ∙ p))
 
-        go : (a b : ℕ) (c : Bool) → (eqb j a && eqb (stationOf E m) b) ≡ c
-            → cond c (messagesOf f (underWay E j (stationOf E m) (suc m))) (P .queue a b) ≡ messagesOf f (underWay E a b (suc m))
-        go a b true c = let k = both (eqb j a) _ c in rw (eqb-true j a (k .0), eqb-true (stationOf E m) b (k .1))
+        go : (a b : ℕ) (c : Bool) → (eqb j a && eqb (recordStation E m) b) ≡ c
+            → cond c (messagesOf f (underWay E j (recordStation E m) (suc m))) (P .queue a b) ≡ messagesOf f (underWay E a b (suc m))
+        go a b true c = let k = both (eqb j a) _ c in rw (eqb-true j a (k .0), eqb-true (recordStation E m) b (k .1))
         go a b false c = h .queues a b ∙ sym (ap (messagesOf f) (stays-under-way E a b m (rw e) (rw (e, c))))
 
     does : Follows E T m → Does m P

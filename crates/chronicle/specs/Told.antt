@@ -116,7 +116,7 @@ module _ (c : Config) (w : wellMade c ≡ true) (r : networkRules c ≡ true) (p
       go : Dec (x ≡ y) → x ≡ y
       go (yes q) = q
       go (no n) =
-          let h : HappenedBefore (entriesOf c ps) x y = from-chain (entriesOf c ps) (chain-exactly (clocked _ _ trace) x y xl yl p .1 (n, λ k. omega (arith, ap (λ (v : List ℕ). getD v k 0) e))) in
+          let h : HappenedBefore (entriesOf c ps) x y = from-chain _ _ trace (chain-exactly (clocked _ _ trace) x y xl yl p .1 (n, λ k. omega (arith, ap (λ (v : List ℕ). getD v k 0) e))) in
           absurd (by-timestamp _ _ trace x y xl yl p .0 h .0 e)
 
 pub every-archive : EveryArchive

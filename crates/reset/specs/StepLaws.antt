@@ -1,4 +1,5 @@
--- Laws of every step: the cases of its outcome, that a refused step leaves the state as it was, and what an accepted entry's record bears. Assumes nothing.
+-- Laws of every step: the cases of its outcome, that a refused step leaves the state as it was, what an accepted entry's record bears, and
+-- that the answer is of the station that took the step. Assumes nothing.
 use Prim.Native.Nat.{ℕ, _<_}
 use mathlib.Core.Path.{_≡_, refl}
 use mathlib.Core.List.{List, [], _∷_}
@@ -8,7 +9,7 @@ use borrow.Author.Tests.{not-false, leb-false}
 use Rattle.reset.specs.Config.{Config, isStation, neighbours, limitAt, allowanceAt}
 use Rattle.reset.specs.Clock.{Clock}
 use Rattle.reset.specs.State.{Mode, normal, mute, standBy, Item, message, resetReq, resetDone, State, stationAt, linkAt, doneSeen, sentTo}
-use Rattle.reset.specs.Steps.{Step, enter, send, recv, start, Entry, refused, entry, modeAfter, Outcome, refuse, guard, inBounds, bounded, doEnter, maySend, doSend, doReceive, withReq, withDone, doMark, receive, doStart, isNormal, step}
+use Rattle.reset.specs.Steps.{Step, enter, send, recv, start, stationOfStep, Entry, Answer, refused, entry, modeAfter, Outcome, refuse, guard, inBounds, bounded, doEnter, maySend, doSend, doReceive, withReq, withDone, doMark, receive, doStart, isNormal, step}
 
 -- ---- the tests that refuse
 module _ {K : Clock} (c : Config) (s : State K) (P : Outcome K → Type 0) where
@@ -101,7 +102,9 @@ refused-leaves c s =
 abbrev pub Bears : {K : Clock} → State K → Step → Entry → Type 0
 Bears s (enter i g) e = (e .kind ≡ 1) × (e .station ≡ i) × (e .peer ≡ 255) × (e .phase ≡ stationAt s i .phase) × (e .register ≡ g)
 Bears s (send i j g) e = (e .kind ≡ 2) × (e .station ≡ i) × (e .peer ≡ j) × (e .phase ≡ stationAt s i .phase) × (e .register ≡ g)
-Bears s (recv i j) e = (e .kind ≡ 3) × (e .station ≡ i) × (e .peer ≡ j) × (e .phase ≡ stationAt s i .phase)
+Bears {K} s (recv i j) e =
+    (e .kind ≡ 3) × (e .station ≡ i) × (e .peer ≡ j) × (e .phase ≡ stationAt s i .phase)
+    × ((w : K .Load) × (q : List (Item K)) × (linkAt s j i ≡ message w (e .register) ∷ q))
 Bears s (start i) e = ⊥
 
 abbrev BearsAll : {K : Clock} → State K → Step → Outcome K → Type 0
@@ -123,8 +126,30 @@ record-bears c s =
       refusal = λ p k e h. refused-entry k e h;
       own = λ i g si l b e h. rw (← entry-same _ e h) (refl, refl, refl, refl, refl);
       sent = λ i j g si ij m l b e h. rw (← entry-same _ e h) (refl, refl, refl, refl, refl);
-      received = λ i j w g q si ij k b e h. rw (← entry-same _ e h) (refl, refl, refl, refl);
+      received = λ i j w g q si ij k b e h. rw (← entry-same _ e h) (refl, refl, refl, refl, (w, q, k));
       req = λ i j q si ij k b e h. mode-entry i _ _ e h;
       done = λ i j q si ij k b e h. mode-entry i _ _ e h;
       started = λ i si m l b e h. mode-entry i _ _ e h;
+    })
+
+-- ---- an accepted step is answered for the station that took it
+abbrev pub Taker : Step → Answer → Type 0
+Taker p (refused k) = Unit {0}
+Taker p (entry e) = e .station ≡ stationOfStep p
+Taker p (modeAfter i m f) = i ≡ stationOfStep p
+
+abbrev TakerAll : {K : Clock} → Step → Outcome K → Type 0
+TakerAll p o = Taker p (o .answer)
+
+pub answers-taker : {K : Clock} (c : Config) (s : State K) (p : Step) → Taker p (step c s p .answer)
+answers-taker c s =
+    of-step c s TakerAll
+    (record {
+      refusal = λ p k. tt;
+      own = λ i g si l b. refl;
+      sent = λ i j g si ij m l b. refl;
+      received = λ i j w g q si ij k b. refl;
+      req = λ i j q si ij k b. refl;
+      done = λ i j q si ij k b. refl;
+      started = λ i si m l b. refl;
     })

@@ -83,6 +83,13 @@ pub data Step : Type 0 where
   recv : ℕ → ℕ → Step
   start : ℕ → Step
 
+-- the station that takes a step
+abbrev pub stationOfStep : Step → ℕ
+stationOfStep (enter i g) = i
+stationOfStep (send i j g) = i
+stationOfStep (recv i j) = i
+stationOfStep (start i) = i
+
 -- An accepted entry's record: kind (1 own, 2 sent, 3 received), station, peer (255 for own), phase, register number, eight counts.
 pub record Entry : Type 0 where
   pub kind : ℕ
