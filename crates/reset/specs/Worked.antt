@@ -87,6 +87,10 @@ strict = link 0 1 1 (allow 1 1 (allow 0 1 (net 2 3)))
 abbrev pub middle : Config
 middle = link 0 2 1 (link 0 1 1 (allow 2 1 (allow 1 1 (allow 0 1 (net 3 5)))))
 
+-- two stations whose links have different limits, 3 from 0 to 1 and 1 back: with t = 8 the sum rule just holds of station 0
+abbrev pub skewed : ℕ → Config
+skewed t = limitTo 1 0 1 (limitTo 0 1 3 (allow 0 4 (net 2 t)))
+
 -- station 0 starts, 1 and 2 reset, and 0 has taken the req of each: it is in stand-by, with a done under way from each
 abbrev pub allReset : List Step
 allReset = start 0 ∷ recv 1 0 ∷ recv 2 0 ∷ recv 0 1 ∷ recv 0 2 ∷ []
@@ -117,6 +121,15 @@ pub record Traps : Type 0 where
   pub counted-anew : lines strict (enter 0 1 ∷ enter 0 2 ∷ send 0 1 3 ∷ send 0 1 4 ∷ start 0 ∷ recv 1 0 ∷ recv 1 0 ∷ recv 0 1 ∷ enter 0 5 ∷ recv 0 1 ∷ send 0 1 6 ∷ [])
       ≡ entryLine 0 0 (1 ∷ 0 ∷ []) ∷ noLine 6 ∷ entryLine 0 0 (2 ∷ 0 ∷ []) ∷ noLine 6 ∷ modeLine 0 0 mute ∷ entryLine 0 1 (2 ∷ 1 ∷ []) ∷ modeLine 1 1 standBy
       ∷ modeLine 1 0 standBy ∷ entryLine 1 0 (1 ∷ 0 ∷ []) ∷ modeLine 1 0 normal ∷ entryLine 1 0 (2 ∷ 0 ∷ []) ∷ []
+  -- what was sent and entered in stand-by counts when the station is normal again: limit and allowance are used up
+  pub counted-in-stand-by : drop 5 (lines middle (allReset ++ (recv 0 1 ∷ send 0 1 7 ∷ enter 0 8 ∷ recv 0 2 ∷ send 0 1 9 ∷ enter 0 10 ∷ [])))
+      ≡ modeLine 1 0 standBy ∷ entryLine 1 0 (1 ∷ 0 ∷ 0 ∷ []) ∷ entryLine 1 0 (2 ∷ 0 ∷ 0 ∷ []) ∷ modeLine 1 0 normal ∷ noLine 6 ∷ noLine 6 ∷ []
+  -- a start begins no new count: what was entered before it counts while the station is mute
+  pub counted-while-mute : lines strict (enter 0 1 ∷ start 0 ∷ enter 0 2 ∷ []) ≡ entryLine 0 0 (1 ∷ 0 ∷ []) ∷ modeLine 0 0 mute ∷ noLine 6 ∷ []
+  -- the limit of a send and the places of a link are those of its own direction, not of the way back
+  pub own-direction : lines (skewed 8) (send 0 1 1 ∷ send 0 1 2 ∷ send 0 1 3 ∷ send 0 1 4 ∷ send 1 0 5 ∷ send 1 0 6 ∷ start 0 ∷ start 1 ∷ recv 0 1 ∷ recv 0 1 ∷ [])
+      ≡ entryLine 0 0 (1 ∷ 0 ∷ []) ∷ entryLine 0 0 (2 ∷ 0 ∷ []) ∷ entryLine 0 0 (3 ∷ 0 ∷ []) ∷ noLine 6 ∷ entryLine 0 1 (0 ∷ 1 ∷ []) ∷ noLine 6
+      ∷ modeLine 0 0 mute ∷ modeLine 0 1 mute ∷ entryLine 0 0 (4 ∷ 1 ∷ []) ∷ modeLine 1 0 standBy ∷ []
   -- a link holds two items more than its limit: a message, a req and a done (one more only: 9)
   pub two-more-places : lines strict (send 0 1 1 ∷ start 0 ∷ start 1 ∷ recv 0 1 ∷ []) ≡ entryLine 0 0 (1 ∷ 0 ∷ []) ∷ modeLine 0 0 mute ∷ modeLine 0 1 mute ∷ modeLine 1 0 standBy ∷ []
   -- a third send on a limit of 2
@@ -139,6 +152,9 @@ traps =
       sends-in-stand-by = refl;
       done-while-mute = refl;
       counted-anew = refl;
+      counted-in-stand-by = refl;
+      counted-while-mute = refl;
+      own-direction = refl;
       two-more-places = refl;
       third-send = refl;
       while-mute = refl;

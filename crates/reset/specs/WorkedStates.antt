@@ -11,10 +11,10 @@ use Rattle.reset.specs.Reach.{limit, linked, apart, joins, first, unseen
 use Rattle.reset.specs.Config.{Config, allowancesFit, limitsFit, wellMade, zeroDiagonal, linkedBothWays, nothingAbove, sum, withinCeiling, networkRules}
 use Rattle.reset.specs.Clock.{vector}
 use Rattle.reset.specs.State.{Mode, normal, mute, standBy, Item, message, resetReq, resetDone, Station, State, noneSeen, setStation, setLink}
-use Rattle.reset.specs.Steps.{enter, send, recv, start}
+use Rattle.reset.specs.Steps.{Step, enter, send, recv, start}
 use Rattle.reset.specs.Network.{initial, run, quiescent}
 use Rattle.reset.specs.WellFormed.{countsFit, sentFits, marksFit, stationFits, linkFits, shapeFits, wellFormed}
-use Rattle.reset.specs.Worked.{net, allow, limitTo, link, entryLine, modeLine, noLine, linesFrom, pair, listing, lone, strict, middle}
+use Rattle.reset.specs.Worked.{net, allow, limitTo, link, Line, entryLine, modeLine, noLine, linesFrom, pair, listing, lone, strict, middle, skewed}
 
 -- ---- headers
 -- the five network rules, in document 01's order
@@ -43,7 +43,10 @@ pub record Headers : Type 0 where
   pub strict-accepted : (wellMade strict ≡ true) × (networkRules strict ≡ true)
   pub middle-accepted : (wellMade middle ≡ true) × (networkRules middle ≡ true)
   pub winding-accepted : (wellMade winding ≡ true) × (networkRules winding ≡ true)
+  -- the sum rule counts both directions of a link, once each
+  pub skewed-accepted : (wellMade (skewed 8) ≡ true) × (networkRules (skewed 8) ≡ true)
   -- well made, and one rule broken: 3
+  pub skewed-refused : kept (skewed 7) ≡ true ∷ true ∷ true ∷ true ∷ false ∷ []
   pub ceiling-six : (wellMade (sized 2 6) ≡ true) × (networkRules (sized 2 6) ≡ false) × (kept (sized 2 6) ≡ true ∷ true ∷ true ∷ true ∷ false ∷ [])
   pub diagonal : kept (limitTo 1 1 1 (net 2 7)) ≡ false ∷ true ∷ true ∷ false ∷ true ∷ []
   pub one-way : kept (limitTo 0 1 1 (net 2 7)) ≡ true ∷ false ∷ true ∷ true ∷ true ∷ []
@@ -66,6 +69,8 @@ headers =
       strict-accepted = (refl, refl);
       middle-accepted = (refl, refl);
       winding-accepted = (refl, refl);
+      skewed-accepted = (refl, refl);
+      skewed-refused = refl;
       ceiling-six = (refl, refl, refl);
       diagonal = refl;
       one-way = refl;
@@ -104,10 +109,18 @@ on i j q s = setLink s i j q
 abbrev notes : ℕ → ℕ → ℕ → List (Item vector)
 notes n a b = replicate n (message (two 0 a b) 4294967295)
 
+-- the initial state with station 1 in a phase, and nothing else changed
+abbrev ahead : ℕ → State vector
+ahead p = setStation (initial vector pair) 1 (record { time = zeros; mode = normal; phase = p; own = 0; sent = zeros; reqs = noneSeen; dones = two false true false })
+
 -- unfolds all that the test and a step compute with
-unfoldable pub formed : State vector → Bool
+unfoldable pub formedIn : Config → State vector → Bool
 unfolding kept linesFrom countsFit sentFits marksFit stationFits linkFits shapeFits wellFormed quiescent
-formed s = wellFormed pair s
+formedIn c s = wellFormed c s
+
+unfoldable pub formed : State vector → Bool
+unfolding formedIn
+formed s = formedIn pair s
 
 pub record States : Type 0 where
   -- well formed: the initial state, the one after the listing, and the greatest of each number
@@ -134,11 +147,15 @@ pub record States : Type 0 where
       × (formed (setStation (initial vector pair) 8 (held 0 0 normal 0 0 0 false false)) ≡ false)
   -- a link with more items than places; with one where there is no link; a message's count or register number out of range
   pub wrong-link : (formed (on 0 1 (notes 5 0 0) (initial vector pair)) ≡ false) × (formed (on 0 0 (resetReq ∷ []) (initial vector pair)) ≡ false)
+  -- the places of a link are those of its own direction: five from 0 to 1, three back
+  pub wrong-direction : (formedIn (skewed 8) (on 1 0 (notes 3 0 0) (on 0 1 (notes 5 0 0) (initial vector (skewed 8)))) ≡ true)
+      × (formedIn (skewed 8) (on 1 0 (notes 4 0 0) (initial vector (skewed 8))) ≡ false) × (formedIn (skewed 8) (on 0 1 (notes 6 0 0) (initial vector (skewed 8))) ≡ false)
   pub wrong-message : (formed (on 0 1 (notes 1 8 0) (initial vector pair)) ≡ false) × (formed (on 0 1 (message (0 ∷ two 0 0 1) 1 ∷ []) (initial vector pair)) ≡ false)
       × (formed (on 0 1 (message (0 ∷ 0 ∷ 1 ∷ replicate 5 0) 1 ∷ []) (initial vector pair)) ≡ false) × (formed (on 0 1 (message zeros 4294967296 ∷ []) (initial vector pair)) ≡ false)
   -- quiescent: all normal and in one phase
   pub rests : (quiescent pair (initial vector pair) ≡ true) × (quiescent pair (run pair (initial vector pair) listing) ≡ true)
       × (quiescent pair (with (held 0 0 normal 1 0 0 false true)) ≡ false) × (quiescent pair (with (held 0 0 mute 0 0 0 false true)) ≡ false)
+      × (formed (ahead 1) ≡ true) × (quiescent pair (ahead 1) ≡ false) × (quiescent pair (ahead 0) ≡ true)
 
 pub states : States
 unfolding formed
@@ -154,43 +171,46 @@ states =
       wrong-peer = (refl, refl, refl);
       nobody = (refl, refl, refl, refl);
       wrong-link = (refl, refl);
+      wrong-direction = (refl, refl, refl);
       wrong-message = (refl, refl, refl, refl);
-      rests = (refl, refl, refl, refl);
+      rests = (refl, refl, refl, refl, refl, refl, refl);
     }
 
--- ---- steps on such states, well formed each
+-- ---- steps on such states
+-- s is well formed, and a list of steps from it is answered so
+abbrev pub Lent : State vector → List Step → List Line → Type 0
+Lent s ps out = (formed s ≡ true) × (linesFrom pair s ps ≡ out)
+
 pub record LentSteps : Type 0 where
   -- 8 in phase 999,999, and not before it; 5 comes before 8, and 8 before 9
-  pub start-at-last : linesFrom pair (with (held 0 0 normal 999999 0 0 false true)) (start 0 ∷ start 1 ∷ []) ≡ noLine 8 ∷ modeLine 0 1 mute ∷ []
-  pub start-before : linesFrom pair (with (held 0 0 normal 999998 0 0 false true)) (start 0 ∷ []) ≡ modeLine 999998 0 mute ∷ []
-  pub five-before-eight : linesFrom pair (with (held 0 0 standBy 999999 0 0 false true)) (start 0 ∷ []) ≡ noLine 5 ∷ []
-  pub eight-before-nine : linesFrom pair (on 0 1 (notes 4 0 0) (with (held 0 0 normal 999999 0 0 false true))) (start 0 ∷ []) ≡ noLine 8 ∷ []
+  pub start-at-last : Lent (with (held 0 0 normal 999999 0 0 false true)) (start 0 ∷ start 1 ∷ []) (noLine 8 ∷ modeLine 0 1 mute ∷ [])
+  pub start-before : Lent (with (held 0 0 normal 999998 0 0 false true)) (start 0 ∷ []) (modeLine 999998 0 mute ∷ [])
+  pub five-before-eight : Lent (with (held 0 0 standBy 999999 0 0 false true)) (start 0 ∷ []) (noLine 5 ∷ [])
+  pub eight-before-nine : Lent (on 0 1 (notes 4 0 0) (with (held 0 0 normal 999999 0 0 false true))) (start 0 ∷ []) (noLine 8 ∷ [])
   -- 9 for a phase, a count or an item beyond its bound; 6 comes before 9; the state is left: the next step finds it so
-  pub phase-beyond : linesFrom pair (on 1 0 (resetReq ∷ []) (with (held 0 0 normal 999999 0 0 false true))) (recv 0 1 ∷ enter 0 1 ∷ []) ≡ noLine 9 ∷ entryLine 999999 0 (1 ∷ 0 ∷ []) ∷ []
-  pub count-beyond : linesFrom pair (on 1 0 (notes 1 0 0) (with (held 7 0 normal 0 2 1 false true))) (enter 0 1 ∷ send 0 1 1 ∷ recv 0 1 ∷ []) ≡ noLine 9 ∷ noLine 9 ∷ noLine 9 ∷ []
-  pub item-beyond : linesFrom pair (on 0 1 (notes 4 0 0) (with (held 0 0 normal 0 0 0 false true))) (send 0 1 1 ∷ start 0 ∷ recv 1 0 ∷ send 0 1 1 ∷ [])
-      ≡ noLine 9 ∷ noLine 9 ∷ entryLine 0 1 (0 ∷ 1 ∷ []) ∷ entryLine 0 0 (1 ∷ 0 ∷ []) ∷ []
-  pub six-before-nine : linesFrom pair (with (held 7 0 normal 0 3 2 false true)) (enter 0 1 ∷ send 0 1 1 ∷ []) ≡ noLine 6 ∷ noLine 6 ∷ []
+  pub phase-beyond : Lent (on 1 0 (resetReq ∷ []) (with (held 0 0 normal 999999 0 0 false true))) (recv 0 1 ∷ enter 0 1 ∷ []) (noLine 9 ∷ entryLine 999999 0 (1 ∷ 0 ∷ []) ∷ [])
+  pub count-beyond : Lent (on 1 0 (notes 1 0 0) (with (held 7 0 normal 0 2 1 false true))) (enter 0 1 ∷ send 0 1 1 ∷ recv 0 1 ∷ []) (noLine 9 ∷ noLine 9 ∷ noLine 9 ∷ [])
+  pub item-beyond : Lent (on 0 1 (notes 4 0 0) (with (held 0 0 normal 0 0 0 false true))) (send 0 1 1 ∷ start 0 ∷ recv 1 0 ∷ send 0 1 1 ∷ []) (noLine 9 ∷ noLine 9 ∷ entryLine 0 1 (0 ∷ 1 ∷ []) ∷ entryLine 0 0 (1 ∷ 0 ∷ []) ∷ [])
+  pub six-before-nine : Lent (with (held 7 0 normal 0 3 2 false true)) (enter 0 1 ∷ send 0 1 1 ∷ []) (noLine 6 ∷ noLine 6 ∷ [])
   -- a receipt raises each other count to the greater, and the own count by 1 whatever the message bears
-  pub own-count : linesFrom pair (on 1 0 (notes 1 5 3) (with (held 2 1 normal 0 0 0 false true))) (recv 0 1 ∷ []) ≡ entryLine 0 0 (3 ∷ 3 ∷ []) ∷ []
-  pub others-greater : linesFrom pair (on 1 0 (notes 1 5 3) (with (held 2 4 normal 0 0 0 false true))) (recv 0 1 ∷ []) ≡ entryLine 0 0 (3 ∷ 4 ∷ []) ∷ []
+  pub own-count : Lent (on 1 0 (notes 1 5 3) (with (held 2 1 normal 0 0 0 false true))) (recv 0 1 ∷ []) (entryLine 0 0 (3 ∷ 3 ∷ []) ∷ [])
+  pub others-greater : Lent (on 1 0 (notes 1 5 3) (with (held 2 4 normal 0 0 0 false true))) (recv 0 1 ∷ []) (entryLine 0 0 (3 ∷ 4 ∷ []) ∷ [])
   -- three rules in a row, b, c and a: a reset at once, into the next phase's stand-by
-  pub three-in-a-row : linesFrom pair (on 1 0 (resetDone ∷ []) (with (held 1 0 standBy 4 1 0 true false))) (recv 0 1 ∷ recv 1 0 ∷ recv 1 0 ∷ recv 1 0 ∷ [])
-      ≡ modeLine 5 0 standBy ∷ modeLine 1 1 standBy ∷ modeLine 1 1 normal ∷ noLine 7 ∷ []
+  pub three-in-a-row : Lent (on 1 0 (resetDone ∷ []) (with (held 1 0 standBy 4 1 0 true false))) (recv 0 1 ∷ recv 1 0 ∷ recv 1 0 ∷ recv 1 0 ∷ []) (modeLine 5 0 standBy ∷ modeLine 1 1 standBy ∷ modeLine 1 1 normal ∷ noLine 7 ∷ [])
 
 pub lent-steps : LentSteps
-unfolding linesFrom
+unfolding formed linesFrom
 lent-steps =
     record {
-      start-at-last = refl;
-      start-before = refl;
-      five-before-eight = refl;
-      eight-before-nine = refl;
-      phase-beyond = refl;
-      count-beyond = refl;
-      item-beyond = refl;
-      six-before-nine = refl;
-      own-count = refl;
-      others-greater = refl;
-      three-in-a-row = refl;
+      start-at-last = (refl, refl);
+      start-before = (refl, refl);
+      five-before-eight = (refl, refl);
+      eight-before-nine = (refl, refl);
+      phase-beyond = (refl, refl);
+      count-beyond = (refl, refl);
+      item-beyond = (refl, refl);
+      six-before-nine = (refl, refl);
+      own-count = (refl, refl);
+      others-greater = (refl, refl);
+      three-in-a-row = (refl, refl);
     }
