@@ -1,6 +1,7 @@
 -- The test of an area holds exactly of the images of well-formed states, and an image determines its state. Assumes nothing.
 use Prim.Native.Nat.{ℕ, _+_, _*_, _/_, _%_, _<_}
 use mathlib.Core.Path.{_≡_, _∙_, sym, ap}
+use mathlib.Core.Logic.{_↔_}
 use mathlib.Core.List.{List, []}
 use mathlib.Core.Bool.{true}
 use native.Mathlib.Omega.{arith}
@@ -224,3 +225,7 @@ module _ (c : Config) (s : State vector) (h : wellFormed c s ≡ true) where
 pub image-determines : (c d : Config) (s t : State vector) → wellFormed c s ≡ true → wellFormed d t ≡ true → image c s ≡ image d t → (c ≡ d) × (s ≡ t)
 image-determines c d s t h g e =
     (sym (config-back c s (imaged c s h)) ∙ ap configAt e ∙ config-back d t (imaged d t g), sym (state-back c s (imaged c s h)) ∙ ap stateAt e ∙ state-back d t (imaged d t g))
+
+-- an area passes just when it is the image of a well-formed state
+pub test-exactly : (a : List ℕ) → AreBytes a → (test a ≡ true) ↔ ((c : Config) × (s : State vector) × (wellFormed c s ≡ true) × (a ≡ image c s))
+test-exactly a b = (λ w. (configAt a, stateAt a, formed-fits a b w, sym (formed a b w)), λ q. let (c, s, f, e) = q in ap test e ∙ image-passes c s f)

@@ -3,3 +3,4 @@ pub mod Calls
 pub mod Headers
 pub mod Archives
 pub mod Distinct
+pub mod Refused
