@@ -4,3 +4,4 @@ pub mod Headers
 pub mod Archives
 pub mod Distinct
 pub mod Refused
+pub mod Worked
