@@ -77,16 +77,12 @@ fn send_message(area: &mut [u8], s: Station, i: usize, j: usize, register: u32) 
 {
     let x = turning::sending(s, i, j);
     let counts = x.counts;
-    place::push_at(
-        area,
-        i,
-        j,
-        Item {
-            kind: 1,
-            register,
-            counts,
-        },
-    );
+    let item = Item {
+        kind: 1,
+        register,
+        counts,
+    };
+    place::push_at(area, i, j, item);
     place::put_station(area, i, x);
     stepped::entry(2, i as u8, j as u8, register, x)
 }
