@@ -32,6 +32,6 @@ pub fn is_sealed(block: &[u8]) -> bool {
 }
 
 /// Whether every byte is zero.
-pub(crate) fn all_zero(bytes: &[u8]) -> bool {
+pub fn all_zero(bytes: &[u8]) -> bool {
     bytes.iter().fold(0, |all, &byte| all | byte) == 0
 }

@@ -144,9 +144,9 @@ impl Header {
                 .all(|i| (0..MAX_STATIONS).all(|j| (i < n && j < n) || self.limits[i][j] == 0))
     }
 
-    /// Every station can be reached from station 0.
+    /// Every station can be reached from station 0. A station that no table
+    /// holds is reached by none.
     pub fn all_reached(&self) -> bool {
-        let n = self.n().min(MAX_STATIONS);
         let mut reached = [false; MAX_STATIONS];
         let mut open = vec![0];
         reached[0] = true;
@@ -158,7 +158,7 @@ impl Header {
                 }
             }
         }
-        reached[..n].iter().all(|&r| r)
+        (0..self.n()).all(|i| i < MAX_STATIONS && reached[i])
     }
 
     /// For each i, Ai + the sum over neighbours j of (Lij + Lji) ≤ t.
