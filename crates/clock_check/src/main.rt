@@ -119,6 +119,55 @@ fn places() {
     }
 }
 
+// Zeros, with x at place i.
+fn only(i: usize, x: u16) -> [u16; 8]
+    requires { ⌜ i < 8 ⌝ }
+{
+    let mut c = [0u16; 8];
+    c[i] = x;
+    c
+}
+
+fn fit(a: [u16; 8], n: u8, t: u16) {
+    if clock::counts_fit(a, n, t) {
+        io::write_all(1, b" yes");
+    } else {
+        io::write_all(1, b" no");
+    }
+}
+
+// One count x at each place in turn, the others 0.
+fn fits(n: u8, x: u16, t: u16) {
+    let mut i = 0;
+    while i < 8 {
+        fit(only(i, x), n, t);
+        i += 1;
+    }
+}
+
+fn alone(n: u8, x: u16, t: u16) {
+    io::write_all(1, b"count ");
+    io::print_decimal(1, wide(x));
+    io::write_all(1, b" within ");
+    io::print_decimal(1, wide(t));
+    io::write_all(1, b" of stations ");
+    io::print_decimal(1, wide(n as u16));
+    io::write_all(1, b":");
+    fits(n, x, t);
+    io::write_all(1, b"\n");
+}
+
+// A count that is at most t is wrong for stations n and above alone, one above t for those below n too.
+fn stations() {
+    let mut n: u8 = 1;
+    while n < 9 {
+        alone(n, 1, 1);
+        alone(n, 65535, 65535);
+        alone(n, 2, 1);
+        n += 1;
+    }
+}
+
 fn main() {
     order([1, 0, 0, 0, 0, 0, 0, 0], [2, 1, 0, 0, 0, 0, 0, 0]);
     order([0, 1, 0, 0, 0, 0, 0, 0], [1, 0, 0, 0, 0, 0, 0, 0]);
@@ -128,4 +177,5 @@ fn main() {
     order([65535; 8], [0; 8]);
     join([1, 9, 3, 0, 65535, 0, 7, 2], [2, 8, 3, 65535, 0, 0, 6, 4]);
     places();
+    stations();
 }

@@ -119,6 +119,14 @@ fn place(i: usize, j: usize) {
     step(fives(i, 3), fives(i, 65535), i);
 }
 
+/// One count x at each place in turn, the others 0.
+fn alone(n: u8, x: u16, t: u16) {
+    let only = |i: usize| std::array::from_fn(|k| if k == i { x } else { 0 });
+    let word = |i: usize| if fits(only(i), n, t) { "yes" } else { "no" };
+    let words = spaced((0..8).map(word));
+    println!("count {x} within {t} of stations {n}:{words}");
+}
+
 fn main() {
     order([1, 0, 0, 0, 0, 0, 0, 0], [2, 1, 0, 0, 0, 0, 0, 0]);
     order([0, 1, 0, 0, 0, 0, 0, 0], [1, 0, 0, 0, 0, 0, 0, 0]);
@@ -129,5 +137,10 @@ fn main() {
     join([1, 9, 3, 0, 65535, 0, 7, 2], [2, 8, 3, 65535, 0, 0, 6, 4]);
     for i in 0..8 {
         place(i, (i + 1) % 8);
+    }
+    for n in 1..9 {
+        alone(n, 1, 1);
+        alone(n, 65535, 65535);
+        alone(n, 2, 1);
     }
 }
