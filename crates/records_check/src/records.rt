@@ -150,6 +150,37 @@ fn phases() {
     phase(4294967295);
 }
 
+// The answer to a record of station 3 with this own count, all others the greatest.
+fn own_count(x: u16) {
+    let mut counts = [65535u16; 8];
+    counts[3] = x;
+    let mut d = [0u8; 32];
+    make(
+        &mut d,
+        Record {
+            kind: 2,
+            station: 3,
+            peer: 5,
+            phase: 0,
+            register: 0,
+            counts,
+        },
+    );
+    vectors::item(
+        b"record with own count ",
+        vectors::wide16(x),
+        vectors::wide(vectors::record_answer(&d)),
+    );
+}
+
+// 256 has a first byte of 0.
+fn own_counts() {
+    own_count(0);
+    own_count(1);
+    own_count(256);
+    own_count(65535);
+}
+
 // The answer to the first n of 40 bytes, a record and bytes 0.
 fn cut(n: usize)
     requires { ⌜ n ≤ 40 ⌝ }
@@ -196,6 +227,7 @@ fn received() {
 pub fn run() {
     trips();
     phases();
+    own_counts();
     cuts();
     own();
     sent();

@@ -161,6 +161,17 @@ fn phases() {
     }
 }
 
+/// Own counts of station 3, all others the greatest.
+fn own_counts() {
+    for x in [0, 1, 256, 65535] {
+        let mut fields = full(2, 3, 5);
+        fields.counts = [65535; 8];
+        fields.counts[3] = x;
+        let answer = answer(Form::Record, &fields.to_bytes());
+        println!("record with own count {x}: {answer}");
+    }
+}
+
 /// The first n of 40 bytes, a record and bytes 0.
 fn record_cuts() {
     let mut bytes = [0; 40];
@@ -173,6 +184,7 @@ fn record_cuts() {
 fn records() {
     trips();
     phases();
+    own_counts();
     record_cuts();
     let good = full(1, 0, 255).to_bytes();
     cases(Form::Record, "own record with byte", &good, &OWN);
