@@ -1,8 +1,10 @@
+//! What the program network_check is to print.
+
 use reference::area;
 use reference::header::Header;
 use reference::network::*;
 mod t {
-    include!("../../../crates/network_check/src/tables.rt");
+    include!("../../../../crates/network_check/src/tables.rt");
 }
 use t::*;
 const A: usize = 65536;

@@ -53,5 +53,5 @@ fn rules_check() {
 
 #[test]
 fn network_check() {
-    compare("network_check", env!("CARGO_BIN_EXE_network_expect"));
+    compare("network_check", env!("CARGO_BIN_EXE_network_check"));
 }

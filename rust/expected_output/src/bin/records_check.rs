@@ -1,7 +1,7 @@
 //! What the program records_check is to print.
 
-use network_expect::Form;
-use network_expect::{
+use expected_output::Form;
+use expected_output::{
     all_moves, all_stored, answer, cases, cuts, moves, number, outcome, resealed, spaced, spares,
     table, Fields,
 };

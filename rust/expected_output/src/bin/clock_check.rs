@@ -1,6 +1,6 @@
 //! What the program clock_check is to print.
 
-use network_expect::spaced;
+use expected_output::spaced;
 use reference::archive::admits;
 use reference::header::Header;
 use reference::network::{Answer, Item, Message, Outcome, State, Step};

@@ -1,7 +1,7 @@
 //! What the program blocks_check is to print.
 
-use network_expect::Form::Header as Block;
-use network_expect::{
+use expected_output::Form::Header as Block;
+use expected_output::{
     all_moves, all_stored, cases, cuts, digest, moves, number, outcome, refused, spaced, spares,
     stored, table,
 };
