@@ -10,9 +10,11 @@ use crate::{raw, Header, Record, Refusal, AREA, RECORD};
 pub enum Mode {
     /// It may send and start.
     Normal,
-    /// It has begun a reset and waits for every neighbour's request.
+    /// It has begun a reset and waits for every neighbour's request. It may
+    /// not send.
     Mute,
-    /// It has reset and waits for every neighbour to have reset.
+    /// It has reset and waits for every neighbour to have reset. It may send
+    /// to those whose `reset_done` it has seen.
     StandBy,
 }
 
@@ -120,8 +122,30 @@ impl Network {
     }
 
     /// A message from a station to a neighbour, with a register number.
-    /// [`Refusal::ModeForbids`] while a reset is under way there,
-    /// [`Refusal::UsedUp`] where the link's limit of this phase is used up.
+    /// [`Refusal::ModeForbids`] where the station is mute, or in stand-by and
+    /// has not seen the peer's `reset_done`, then [`Refusal::UsedUp`] where the
+    /// link's limit of this phase is used up.
+    ///
+    /// ```
+    /// use melontime::{Header, Network, Refusal};
+    ///
+    /// // Station 0 between its neighbours 1 and 2.
+    /// let header = Header::new(3, 9).link(0, 1, 2).link(0, 2, 2);
+    /// let mut network = Network::setup(&header)?;
+    /// network.start(0)?;
+    /// assert_eq!(network.send(0, 1, 7), Err(Refusal::ModeForbids));
+    /// network.recv(1, 0)?;
+    /// network.recv(2, 0)?;
+    /// network.recv(0, 1)?; // the req of station 1
+    /// network.recv(0, 2)?; // the req of station 2, and the reset
+    ///
+    /// // In stand-by it may send where it has seen the done.
+    /// assert_eq!(network.send(0, 1, 7), Err(Refusal::ModeForbids));
+    /// network.recv(0, 1)?;
+    /// assert_eq!(network.send(0, 1, 7)?.phase(), 1);
+    /// assert_eq!(network.send(0, 2, 8), Err(Refusal::ModeForbids));
+    /// # Ok::<(), Refusal>(())
+    /// ```
     pub fn send(&mut self, station: u32, peer: u32, register: u32) -> Result<Record, Refusal> {
         let mut event = [0; RECORD];
         match raw::send(&mut self.area, &mut event, station, peer, register) {
@@ -155,7 +179,7 @@ impl Network {
     }
 
     /// A station starts a reset, and answers its mode and phase after.
-    /// [`Refusal::ModeForbids`] where one is under way there,
+    /// [`Refusal::ModeForbids`] where the station is not normal,
     /// [`Refusal::LastPhase`] in phase 999,999.
     pub fn start(&mut self, station: u32) -> Result<Outcome, Refusal> {
         let mut event = [0; RECORD];
