@@ -11,7 +11,7 @@ use reference::random::Rng;
 
 fn header_of(header: &reference::header::Header) -> Header {
     Header {
-        n: header.stations,
+        n: header.stations.into(),
         t: header.ceiling,
         allowances: header.allowances,
         limits: header.limits,
@@ -77,6 +77,33 @@ fn run(rng: &mut Rng, header: &reference::header::Header) -> Vec<reference::reco
     let stored = Network::from_bytes(network.as_bytes()).expect("an image");
     assert!(stored == network);
     records
+}
+
+/// A number that a network or a header lacks is refused, however great.
+#[test]
+fn stations_that_are_not_there() {
+    let header = Header::new(2, 7).link(0, 1, 2).expect("stations");
+    let mut network = Network::setup(&header).expect("a network");
+    for far in [2, 7, 8, 255, 256, 257, 1 << 16, 1 << 31, u32::MAX] {
+        assert_eq!(network.enter(far, 1), Err(Refusal::NoSuchStation));
+        assert_eq!(network.start(far), Err(Refusal::NoSuchStation));
+        for (station, peer) in [(far, 0), (0, far), (far, far)] {
+            assert_eq!(network.send(station, peer, 1), Err(Refusal::NoSuchStation));
+            assert_eq!(network.recv(station, peer), Err(Refusal::NoSuchStation));
+        }
+        if far > 7 {
+            assert_eq!(header.allow(far, 1), Err(Refusal::NoSuchStation));
+            assert_eq!(header.link(far, 0, 1), Err(Refusal::NoSuchStation));
+            assert_eq!(header.link(0, far, 1), Err(Refusal::NoSuchStation));
+            let n = far.saturating_add(1);
+            let many = Header { n, ..header };
+            assert_eq!(many.to_block(), Err(Refusal::Malformed));
+        } else {
+            let beyond = header.link(0, far, 1).expect("places");
+            assert_eq!(Network::setup(&beyond).unwrap_err(), Refusal::NetworkRule);
+        }
+    }
+    assert!(network == Network::setup(&header).expect("a network"));
 }
 
 #[test]

@@ -392,12 +392,12 @@ fn happened_before(records: &[Record]) -> Vec<Vec<bool>> {
 }
 
 fn main() -> Result<(), Box<dyn Error>> {
-    let mut header = Header::new(STATIONS as u8, ALLOWANCE + 4 * u16::from(LIMIT));
-    for i in 0..STATIONS as usize {
-        header = header.allow(i, ALLOWANCE);
+    let mut header = Header::new(STATIONS, ALLOWANCE + 4 * u16::from(LIMIT));
+    for station in 0..STATIONS {
+        header = header.allow(station, ALLOWANCE)?;
     }
     for (i, j) in LINKS {
-        header = header.link(i as usize, j as usize, LIMIT);
+        header = header.link(i, j, LIMIT)?;
     }
 
     let records = keep_register(&header)?;

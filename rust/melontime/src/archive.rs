@@ -13,7 +13,7 @@ use crate::{raw, write_entries, Header, Record, Refusal, BLOCK, MAX_RECORDS, REC
 /// ```
 /// use melontime::{archive_bytes, Archive, Header, Network, Refusal};
 ///
-/// let header = Header::new(1, 40).allow(0, 40);
+/// let header = Header::new(1, 40).allow(0, 40)?;
 /// let mut network = Network::setup(&header)?;
 /// let records = (0..16).map(|k| network.enter(0, k)).collect::<Result<Vec<_>, _>>()?;
 /// let bytes = archive_bytes(&header, &records)?;
@@ -87,7 +87,7 @@ impl<'a> Archive<'a> {
     /// ```
     /// use melontime::{archive_bytes, Archive, Header, Network, Refusal};
     ///
-    /// let header = Header::new(1, 40).allow(0, 40);
+    /// let header = Header::new(1, 40).allow(0, 40)?;
     /// let record = Network::setup(&header)?.enter(0, 7)?;
     /// let bytes = archive_bytes(&header, &[record])?;
     /// let archive = Archive::open(&bytes)?;
@@ -108,7 +108,7 @@ impl<'a> Archive<'a> {
     /// ```
     /// use melontime::{archive_bytes, Archive, Header, Network, Refusal};
     ///
-    /// let header = Header::new(2, 9).allow(0, 3).allow(1, 3).link(0, 1, 1);
+    /// let header = Header::new(2, 9).allow(0, 3)?.allow(1, 3)?.link(0, 1, 1)?;
     /// let mut network = Network::setup(&header)?;
     /// let records = [network.enter(0, 1)?, network.enter(0, 2)?, network.enter(1, 3)?];
     /// let bytes = archive_bytes(&header, &records)?;
@@ -131,7 +131,7 @@ impl<'a> Archive<'a> {
     /// ```
     /// use melontime::{archive_bytes, Archive, Header, Network, Refusal};
     ///
-    /// let header = Header::new(1, 40).allow(0, 40);
+    /// let header = Header::new(1, 40).allow(0, 40)?;
     /// let mut network = Network::setup(&header)?;
     /// let records = (0..17).map(|k| network.enter(0, k)).collect::<Result<Vec<_>, _>>()?;
     /// let bytes = archive_bytes(&header, &records)?;

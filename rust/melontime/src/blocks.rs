@@ -15,15 +15,15 @@ const FIELDS: usize = 83;
 /// ```
 /// use melontime::{Header, Refusal};
 ///
-/// let header = Header::new(3, 40).allow(0, 8).link(0, 1, 2).link(1, 2, 5);
+/// let header = Header::new(3, 40).allow(0, 8)?.link(0, 1, 2)?.link(1, 2, 5)?;
 /// let block = header.to_block()?;
 /// assert_eq!(Header::read(&block)?, header);
 /// # Ok::<(), Refusal>(())
 /// ```
 #[derive(Clone, Copy, Debug, PartialEq, Eq, Hash)]
 pub struct Header {
-    /// How many stations there are, 1 to 8.
-    pub n: u8,
+    /// How many stations there are, 1 to 8. They are 0 to n - 1.
+    pub n: u32,
     /// The ceiling of every count, 1 to 65,535.
     pub t: u16,
     /// Each station's own entries in a phase.
@@ -35,7 +35,7 @@ pub struct Header {
 
 impl Header {
     /// A header without allowances and links.
-    pub fn new(n: u8, t: u16) -> Header {
+    pub fn new(n: u32, t: u16) -> Header {
         Header {
             n,
             t,
@@ -44,18 +44,35 @@ impl Header {
         }
     }
 
-    /// The header with this allowance of a station. Panics for a station above 7.
-    pub fn allow(mut self, station: usize, allowance: u16) -> Header {
-        self.allowances[station] = allowance;
-        self
+    /// The header with this allowance of a station.
+    ///
+    /// # Errors
+    ///
+    /// [`Refusal::NoSuchStation`] for a station above 7, for which a header has
+    /// no place. One of n to 7 is for setup to refuse.
+    ///
+    /// ```
+    /// use melontime::{Header, Refusal};
+    ///
+    /// assert_eq!(Header::new(2, 7).allow(1, 3)?.allowances[1], 3);
+    /// assert_eq!(Header::new(2, 7).allow(8, 3), Err(Refusal::NoSuchStation));
+    /// # Ok::<(), Refusal>(())
+    /// ```
+    pub fn allow(mut self, station: u32, allowance: u16) -> Result<Header, Refusal> {
+        self.allowances[place(station)?] = allowance;
+        Ok(self)
     }
 
-    /// The header with this link, of one limit both ways. Panics for a station
-    /// above 7.
-    pub fn link(mut self, station: usize, peer: usize, limit: u8) -> Header {
-        self.limits[station][peer] = limit;
-        self.limits[peer][station] = limit;
-        self
+    /// The header with this link, of one limit both ways.
+    ///
+    /// # Errors
+    ///
+    /// [`Refusal::NoSuchStation`] as for [`allow`](Header::allow).
+    pub fn link(mut self, station: u32, peer: u32, limit: u8) -> Result<Header, Refusal> {
+        let (i, j) = (place(station)?, place(peer)?);
+        self.limits[i][j] = limit;
+        self.limits[j][i] = limit;
+        Ok(self)
     }
 
     /// The header block of these fields; [`Refusal::Malformed`] where n, t or a
@@ -71,7 +88,7 @@ impl Header {
         let allowances = self.allowances.map(u16::to_le_bytes);
         let mut block = [0; BLOCK];
         let answer = raw::write_header(
-            u32::from(self.n),
+            self.n,
             u32::from(self.t),
             allowances.as_flattened(),
             self.limits.as_flattened(),
@@ -96,11 +113,21 @@ impl Header {
         done("read_header", raw::read_header(block, &mut fields))?;
         let short = |at: usize| u16::from_le_bytes([fields[at], fields[at + 1]]);
         Ok(Header {
-            n: fields[0],
+            n: fields[0].into(),
             t: short(1),
             allowances: std::array::from_fn(|i| short(3 + 2 * i)),
             limits: std::array::from_fn(|i| std::array::from_fn(|j| fields[19 + 8 * i + j])),
         })
+    }
+}
+
+/// The place of a station in a header.
+fn place(station: u32) -> Result<usize, Refusal> {
+    let place = station as usize;
+    if place < MAX_STATIONS {
+        Ok(place)
+    } else {
+        Err(Refusal::NoSuchStation)
     }
 }
 
@@ -111,7 +138,7 @@ impl Header {
 /// ```
 /// use melontime::{write_entries, Header, Network, Refusal};
 ///
-/// let mut network = Network::setup(&Header::new(1, 9).allow(0, 2))?;
+/// let mut network = Network::setup(&Header::new(1, 9).allow(0, 2)?)?;
 /// let records = [network.enter(0, 7)?, network.enter(0, 8)?];
 /// let block = write_entries(1, &records)?;
 /// assert_eq!(block.len(), 512);
@@ -131,7 +158,7 @@ pub fn write_entries(number: u32, records: &[Record]) -> Result<[u8; BLOCK], Ref
 /// ```
 /// use melontime::{write_entries, EntriesBlock, Header, Network, Refusal};
 ///
-/// let record = Network::setup(&Header::new(1, 9).allow(0, 2))?.enter(0, 7)?;
+/// let record = Network::setup(&Header::new(1, 9).allow(0, 2)?)?.enter(0, 7)?;
 /// let bytes = write_entries(3, &[record])?;
 /// let block = EntriesBlock::open(&bytes)?;
 /// assert_eq!((block.number(), block.count()), (3, 1));

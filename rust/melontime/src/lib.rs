@@ -10,7 +10,7 @@
 //! numbers and byte slices Rust types: a [`Network`] of stations with its
 //! steps, the [`Record`] of an event, the [`Verdict`] on two of them, header
 //! and entries blocks, and the [`Archive`]. A refused call is an `Err` with its
-//! [`Refusal`], and changes nothing.
+//! [`Refusal`], and changes nothing. A station is named by a `u32`, everywhere.
 //!
 //! # A network
 //!
@@ -20,7 +20,7 @@
 //! ```
 //! use melontime::{Header, Mode, Network, Outcome, Refusal};
 //!
-//! let header = Header::new(2, 7).allow(0, 3).allow(1, 3).link(0, 1, 2);
+//! let header = Header::new(2, 7).allow(0, 3)?.allow(1, 3)?.link(0, 1, 2)?;
 //! let mut network = Network::setup(&header)?;
 //!
 //! let own = network.enter(0, 501)?;
@@ -46,7 +46,7 @@
 //! # use melontime::{Header, Network, Refusal};
 //! use melontime::{archive_bytes, Archive, Verdict};
 //!
-//! # let header = Header::new(2, 7).allow(0, 3).allow(1, 3).link(0, 1, 2);
+//! # let header = Header::new(2, 7).allow(0, 3)?.allow(1, 3)?.link(0, 1, 2)?;
 //! # let mut network = Network::setup(&header)?;
 //! let records = [network.enter(0, 1)?, network.enter(1, 2)?, network.enter(0, 3)?];
 //! let bytes = archive_bytes(&header, &records)?;

@@ -51,7 +51,7 @@ pub enum Outcome {
 /// use melontime::{Header, Mode, Network, Outcome, Refusal};
 ///
 /// // A lone station resets at once.
-/// let mut network = Network::setup(&Header::new(1, 2).allow(0, 2))?;
+/// let mut network = Network::setup(&Header::new(1, 2).allow(0, 2)?)?;
 /// network.enter(0, 1)?;
 /// network.enter(0, 2)?;
 /// assert_eq!(network.enter(0, 3), Err(Refusal::UsedUp));
@@ -75,7 +75,8 @@ impl Network {
     ///
     /// let alone = Header::new(2, 7);
     /// assert_eq!(Network::setup(&alone).unwrap_err(), Refusal::NetworkRule);
-    /// assert!(Network::setup(&alone.link(0, 1, 2)).is_ok());
+    /// assert!(Network::setup(&alone.link(0, 1, 2)?).is_ok());
+    /// # Ok::<(), Refusal>(())
     /// ```
     pub fn setup(header: &Header) -> Result<Network, Refusal> {
         Network::setup_block(&header.to_block()?)
@@ -93,7 +94,7 @@ impl Network {
     /// ```
     /// use melontime::{Header, Network, Refusal};
     ///
-    /// let mut network = Network::setup(&Header::new(1, 9).allow(0, 2))?;
+    /// let mut network = Network::setup(&Header::new(1, 9).allow(0, 2)?)?;
     /// network.enter(0, 7)?;
     /// let stored = network.as_bytes().to_vec();
     /// let mut again = Network::from_bytes(&stored)?;
@@ -130,7 +131,7 @@ impl Network {
     /// use melontime::{Header, Network, Refusal};
     ///
     /// // Station 0 between its neighbours 1 and 2.
-    /// let header = Header::new(3, 9).link(0, 1, 2).link(0, 2, 2);
+    /// let header = Header::new(3, 9).link(0, 1, 2)?.link(0, 2, 2)?;
     /// let mut network = Network::setup(&header)?;
     /// network.start(0)?;
     /// assert_eq!(network.send(0, 1, 7), Err(Refusal::ModeForbids));
@@ -161,7 +162,7 @@ impl Network {
     /// ```
     /// use melontime::{Header, Mode, Network, Outcome, Refusal};
     ///
-    /// let mut network = Network::setup(&Header::new(2, 7).link(0, 1, 2))?;
+    /// let mut network = Network::setup(&Header::new(2, 7).link(0, 1, 2)?)?;
     /// network.send(0, 1, 502)?;
     /// network.start(0)?;
     /// assert!(matches!(network.recv(1, 0)?, Outcome::Entry(record) if record.register() == 502));
@@ -191,7 +192,7 @@ impl Network {
     /// ```
     /// use melontime::{Header, Network, Refusal};
     ///
-    /// let mut network = Network::setup(&Header::new(2, 7).link(0, 1, 2))?;
+    /// let mut network = Network::setup(&Header::new(2, 7).link(0, 1, 2)?)?;
     /// assert!(network.rest()?);
     /// network.start(0)?;
     /// assert!(!network.rest()?);

@@ -45,7 +45,7 @@ impl fmt::Display for Verdict {
 /// ```
 /// use melontime::{Header, Kind, Network, Record, Refusal};
 ///
-/// let header = Header::new(2, 7).allow(0, 3).link(0, 1, 2);
+/// let header = Header::new(2, 7).allow(0, 3)?.link(0, 1, 2)?;
 /// let record = Network::setup(&header)?.send(0, 1, 502)?;
 /// assert_eq!(record.kind(), Kind::Sent);
 /// assert_eq!((record.station(), record.peer()), (0, Some(1)));
@@ -123,7 +123,7 @@ impl Record {
     /// ```
     /// use melontime::{Header, Network, Refusal, Verdict};
     ///
-    /// let header = Header::new(2, 7).allow(0, 3).allow(1, 3).link(0, 1, 2);
+    /// let header = Header::new(2, 7).allow(0, 3)?.allow(1, 3)?.link(0, 1, 2)?;
     /// let mut network = Network::setup(&header)?;
     /// let (a, b, c) = (network.enter(0, 1)?, network.enter(0, 2)?, network.enter(1, 3)?);
     /// assert_eq!(a.verdict(&b)?, Verdict::Before);

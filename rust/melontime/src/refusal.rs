@@ -7,7 +7,7 @@ use std::fmt;
 /// ```
 /// use melontime::{Header, Network, Refusal};
 ///
-/// let mut network = Network::setup(&Header::new(1, 5).allow(0, 1))?;
+/// let mut network = Network::setup(&Header::new(1, 5).allow(0, 1)?)?;
 /// network.enter(0, 1)?;
 /// let refusal = network.enter(0, 2).unwrap_err();
 /// assert_eq!(refusal, Refusal::UsedUp);
