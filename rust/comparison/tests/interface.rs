@@ -2,8 +2,8 @@
 
 use comparison::{cases, in_32_bits};
 use melontime::{
-    archive_bytes, Archive, EntriesBlock, Header, Kind, Mode, Network, Outcome, Record, Refusal,
-    Verdict,
+    archive_bytes, Archive, EntriesBlock, Header, InMode, Kind, Mode, Network, Outcome, Record,
+    Refusal, Verdict,
 };
 use reference::generate::{any_network, next_step, Habits};
 use reference::network::{Answer, State, Step};
@@ -27,14 +27,14 @@ fn outcome_of(answer: Answer) -> Outcome {
         Answer::Entry(record) => {
             Outcome::Entry(Record::from_bytes(&record.to_bytes()).expect("a record"))
         }
-        Answer::Mode { mode, phase } => Outcome::InMode {
+        Answer::Mode { mode, phase } => Outcome::Control(InMode {
             mode: match mode {
                 reference::network::Mode::Normal => Mode::Normal,
                 reference::network::Mode::Mute => Mode::Mute,
                 reference::network::Mode::StandBy => Mode::StandBy,
             },
             phase,
-        },
+        }),
     }
 }
 
@@ -51,7 +51,7 @@ fn take(network: &mut Network, step: Step) -> Result<Outcome, Refusal> {
             .send(station as u32, peer as u32, register)
             .map(Outcome::Entry),
         Step::Recv { station, peer } => network.recv(station as u32, peer as u32),
-        Step::Start { station } => network.start(station as u32),
+        Step::Start { station } => network.start(station as u32).map(Outcome::Control),
     }
 }
 
@@ -104,6 +104,17 @@ fn stations_that_are_not_there() {
         }
     }
     assert!(network == Network::setup(&header).expect("a network"));
+}
+
+#[test]
+fn numbers_of_refusals() {
+    for refusal in reference::refusal::Refusal::ALL {
+        assert_eq!(refusal_of(refusal).number(), refusal.number());
+    }
+    let last = reference::refusal::Refusal::ALL.len() as u64;
+    for none in [0, last + 1, 255, 256, 257, u64::MAX] {
+        assert_eq!(Refusal::from_number(none), None);
+    }
 }
 
 #[test]

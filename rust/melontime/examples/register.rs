@@ -19,7 +19,7 @@ use std::time::{Duration, Instant};
 use std::{env, fs, process};
 
 use melontime::{
-    archive_bytes, Archive, Header, Kind, Mode, Network, Outcome, Record, Refusal, Verdict,
+    archive_bytes, Archive, Header, InMode, Kind, Mode, Network, Outcome, Record, Refusal, Verdict,
 };
 
 const STATIONS: u32 = 4;
@@ -94,16 +94,16 @@ impl Request {
 enum Reply {
     Refused(Refusal),
     Entry(Record),
-    InMode(Mode, u32),
+    Control(InMode),
     Is(bool),
 }
 
 impl Reply {
-    fn of(result: Result<Outcome, Refusal>) -> Reply {
-        match result {
-            Ok(Outcome::Entry(record)) => Reply::Entry(record),
-            Ok(Outcome::InMode { mode, phase }) => Reply::InMode(mode, phase),
-            Err(refusal) => Reply::Refused(refusal),
+    fn of(outcome: Outcome) -> Reply {
+        match outcome {
+            Outcome::Entry(record) => Reply::Entry(record),
+            Outcome::Control(after) => Reply::Control(after),
+            other => panic!("an outcome that this program does not know: {other:?}"),
         }
     }
 
@@ -115,7 +115,7 @@ impl Reply {
                 bytes[0] = b'e';
                 bytes[1..].copy_from_slice(record.as_bytes());
             }
-            Reply::InMode(mode, phase) => {
+            Reply::Control(InMode { mode, phase }) => {
                 bytes[..2].copy_from_slice(&[b'm', mode as u8]);
                 bytes[2..6].copy_from_slice(&phase.to_le_bytes());
             }
@@ -126,12 +126,13 @@ impl Reply {
 
     fn from_bytes(bytes: [u8; 33]) -> Option<Reply> {
         let phase = u32::from_le_bytes(bytes[2..6].try_into().ok()?);
+        let control = |mode| Some(Reply::Control(InMode { mode, phase }));
         match (bytes[0], bytes[1]) {
             (b'n', number) => Refusal::from_number(number.into()).map(Reply::Refused),
             (b'e', _) => Record::from_bytes(&bytes[1..]).ok().map(Reply::Entry),
-            (b'm', 0) => Some(Reply::InMode(Mode::Normal, phase)),
-            (b'm', 1) => Some(Reply::InMode(Mode::Mute, phase)),
-            (b'm', 2) => Some(Reply::InMode(Mode::StandBy, phase)),
+            (b'm', 0) => control(Mode::Normal),
+            (b'm', 1) => control(Mode::Mute),
+            (b'm', 2) => control(Mode::StandBy),
             (b'i', yes) => Some(Reply::Is(yes == 1)),
             _ => None,
         }
@@ -151,26 +152,26 @@ struct Register {
 impl Register {
     fn answer(&mut self, station: u32, request: Request) -> Reply {
         let network = &mut self.network;
-        let result = match request {
-            Request::Enter(register) => network.enter(station, register).map(Outcome::Entry),
+        let reply = match request {
+            Request::Enter(register) => network.enter(station, register).map(Reply::Entry),
             Request::Send(peer, register) => {
-                network.send(station, peer, register).map(Outcome::Entry)
+                network.send(station, peer, register).map(Reply::Entry)
             }
-            Request::Recv(peer) => network.recv(station, peer),
-            Request::Start => network.start(station),
+            Request::Recv(peer) => network.recv(station, peer).map(Reply::of),
+            Request::Start => network.start(station).map(Reply::Control),
             Request::Finished => {
                 self.finished += 1;
-                return Reply::Is(true);
+                Ok(Reply::Is(true))
             }
             Request::Over => {
                 let rest = network.rest().expect("the area is the host's own");
-                return Reply::Is(self.finished == STATIONS && rest);
+                Ok(Reply::Is(self.finished == STATIONS && rest))
             }
         };
-        if let Ok(Outcome::Entry(record)) = result {
+        if let Ok(Reply::Entry(record)) = reply {
             self.records.push(record);
         }
-        Reply::of(result)
+        reply.unwrap_or_else(Reply::Refused)
     }
 }
 
@@ -233,7 +234,7 @@ impl Station {
                     self.received += 1;
                     some = true;
                 }
-                Reply::InMode(..) => some = true,
+                Reply::Control(_) => some = true,
                 Reply::Refused(Refusal::EmptyLink) => {}
                 _ => return Err(io::ErrorKind::InvalidData.into()),
             }
@@ -258,7 +259,7 @@ impl Station {
                 Ok(true)
             }
             Reply::Refused(Refusal::UsedUp) => match self.ask(Request::Start)? {
-                Reply::InMode(..) | Reply::Refused(Refusal::ModeForbids) => Ok(false),
+                Reply::Control(_) | Reply::Refused(Refusal::ModeForbids) => Ok(false),
                 _ => Err(io::ErrorKind::InvalidData.into()),
             },
             Reply::Refused(Refusal::ModeForbids) => Ok(false),

@@ -18,7 +18,7 @@
 //! of limit 2 between them.
 //!
 //! ```
-//! use melontime::{Header, Mode, Network, Outcome, Refusal};
+//! use melontime::{Header, InMode, Mode, Network, Outcome, Refusal};
 //!
 //! let header = Header::new(2, 7).allow(0, 3)?.allow(1, 3)?.link(0, 1, 2)?;
 //! let mut network = Network::setup(&header)?;
@@ -33,8 +33,7 @@
 //! assert_eq!(network.recv(1, 0), Err(Refusal::EmptyLink));
 //!
 //! // Station 1 starts a reset: it is mute until its neighbour has answered.
-//! let muted = network.start(1)?;
-//! assert_eq!(muted, Outcome::InMode { mode: Mode::Mute, phase: 0 });
+//! assert_eq!(network.start(1)?, InMode { mode: Mode::Mute, phase: 0 });
 //! assert_eq!(network.send(1, 0, 503), Err(Refusal::ModeForbids));
 //! # let _ = (own, sent);
 //! # Ok::<(), Refusal>(())
@@ -75,7 +74,7 @@ mod refusal;
 
 pub use archive::{archive_bytes, Archive, Records};
 pub use blocks::{write_entries, EntriesBlock, Header};
-pub use network::{Mode, Network, Outcome};
+pub use network::{InMode, Mode, Network, Outcome};
 pub use record::{verdict, Kind, Record, Verdict};
 pub use refusal::Refusal;
 

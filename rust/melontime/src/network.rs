@@ -28,18 +28,24 @@ impl fmt::Display for Mode {
     }
 }
 
-/// What an accepted step comes to.
+/// Where a station is after a step of a reset.
 #[derive(Clone, Copy, Debug, PartialEq, Eq, Hash)]
+pub struct InMode {
+    /// The station's mode.
+    pub mode: Mode,
+    /// The station's phase.
+    pub phase: u32,
+}
+
+/// What a receipt comes to. Later versions may have other outcomes.
+#[derive(Clone, Copy, Debug, PartialEq, Eq, Hash)]
+#[non_exhaustive]
 pub enum Outcome {
-    /// An entry, with its record.
+    /// A message was taken: an entry, with its record.
     Entry(Record),
-    /// A step of a reset: where the station is after it.
-    InMode {
-        /// The station's mode.
-        mode: Mode,
-        /// The station's phase.
-        phase: u32,
-    },
+    /// A control item was taken, a step of a reset: where the station is after
+    /// it.
+    Control(InMode),
 }
 
 /// A network of stations: the 65,536 bytes of its state.
@@ -48,15 +54,14 @@ pub enum Outcome {
 /// refused with [`Refusal::NoSuchStation`].
 ///
 /// ```
-/// use melontime::{Header, Mode, Network, Outcome, Refusal};
+/// use melontime::{Header, InMode, Mode, Network, Refusal};
 ///
 /// // A lone station resets at once.
 /// let mut network = Network::setup(&Header::new(1, 2).allow(0, 2)?)?;
 /// network.enter(0, 1)?;
 /// network.enter(0, 2)?;
 /// assert_eq!(network.enter(0, 3), Err(Refusal::UsedUp));
-/// let reset = network.start(0)?;
-/// assert_eq!(reset, Outcome::InMode { mode: Mode::Normal, phase: 1 });
+/// assert_eq!(network.start(0)?, InMode { mode: Mode::Normal, phase: 1 });
 /// assert_eq!(network.enter(0, 3)?.phase(), 1);
 /// # Ok::<(), Refusal>(())
 /// ```
@@ -156,18 +161,18 @@ impl Network {
     }
 
     /// A station takes the first item of the link from a neighbour: a message,
-    /// which is an entry, or an item of a reset. [`Refusal::EmptyLink`] where
+    /// which is an entry, or a control item. [`Refusal::EmptyLink`] where
     /// there is none.
     ///
     /// ```
-    /// use melontime::{Header, Mode, Network, Outcome, Refusal};
+    /// use melontime::{Header, InMode, Mode, Network, Outcome, Refusal};
     ///
     /// let mut network = Network::setup(&Header::new(2, 7).link(0, 1, 2)?)?;
     /// network.send(0, 1, 502)?;
     /// network.start(0)?;
     /// assert!(matches!(network.recv(1, 0)?, Outcome::Entry(record) if record.register() == 502));
-    /// let turned = network.recv(1, 0)?;
-    /// assert_eq!(turned, Outcome::InMode { mode: Mode::StandBy, phase: 1 });
+    /// let after = InMode { mode: Mode::StandBy, phase: 1 };
+    /// assert_eq!(network.recv(1, 0)?, Outcome::Control(after));
     /// assert_eq!(network.recv(1, 0), Err(Refusal::EmptyLink));
     /// # Ok::<(), Refusal>(())
     /// ```
@@ -175,14 +180,14 @@ impl Network {
         let mut event = [0; RECORD];
         match raw::recv(&mut self.area, &mut event, station, peer) {
             100 => Ok(Outcome::Entry(Record::written(event))),
-            other => in_mode("recv", other),
+            other => in_mode("recv", other).map(Outcome::Control),
         }
     }
 
     /// A station starts a reset, and answers its mode and phase after.
     /// [`Refusal::ModeForbids`] where the station is not normal,
     /// [`Refusal::LastPhase`] in phase 999,999.
-    pub fn start(&mut self, station: u32) -> Result<Outcome, Refusal> {
+    pub fn start(&mut self, station: u32) -> Result<InMode, Refusal> {
         let mut event = [0; RECORD];
         in_mode("start", raw::start(&mut self.area, &mut event, station))
     }
@@ -214,7 +219,7 @@ impl fmt::Debug for Network {
 }
 
 /// The mode and phase of an answer that is no entry: 1,000 + 4 × phase + mode.
-fn in_mode(call: &str, answer: u64) -> Result<Outcome, Refusal> {
+fn in_mode(call: &str, answer: u64) -> Result<InMode, Refusal> {
     if answer < 1000 {
         return Err(refused(call, answer));
     }
@@ -226,5 +231,5 @@ fn in_mode(call: &str, answer: u64) -> Result<Outcome, Refusal> {
         _ => panic!("melontime_{call} answered {answer}, which is none of its numbers"),
     };
     let phase = phase as u32;
-    Ok(Outcome::InMode { mode, phase })
+    Ok(InMode { mode, phase })
 }

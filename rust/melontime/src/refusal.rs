@@ -4,6 +4,8 @@ use std::fmt;
 
 /// Why a call was refused. The call has changed nothing.
 ///
+/// Later versions may refuse for other causes.
+///
 /// ```
 /// use melontime::{Header, Network, Refusal};
 ///
@@ -13,10 +15,12 @@ use std::fmt;
 /// assert_eq!(refusal, Refusal::UsedUp);
 /// assert_eq!(refusal.number(), 6);
 /// assert_eq!(Refusal::from_number(6), Some(Refusal::UsedUp));
+/// assert_eq!(Refusal::from_number(0), None);
 /// # Ok::<(), Refusal>(())
 /// ```
 #[derive(Clone, Copy, Debug, PartialEq, Eq, Hash, PartialOrd, Ord)]
 #[repr(u8)]
+#[non_exhaustive]
 pub enum Refusal {
     /// 1: a block, record or archive of wrong length, check, field or spare byte.
     Malformed = 1,
@@ -46,7 +50,7 @@ pub enum Refusal {
 
 impl Refusal {
     /// Every refusal, by rising number.
-    pub const ALL: [Refusal; 12] = [
+    const ALL: &[Refusal] = &[
         Refusal::Malformed,
         Refusal::IllFormedState,
         Refusal::NetworkRule,
@@ -61,15 +65,15 @@ impl Refusal {
         Refusal::NoSuchRecord,
     ];
 
-    /// The refusal's number, 1 to 12.
+    /// The refusal's number.
     pub fn number(self) -> u8 {
         self as u8
     }
 
-    /// The refusal with a number.
+    /// The refusal with a number; none where no refusal has it.
     pub fn from_number(number: u64) -> Option<Refusal> {
-        let place = usize::try_from(number).ok()?.checked_sub(1)?;
-        Refusal::ALL.get(place).copied()
+        let mut all = Refusal::ALL.iter().copied();
+        all.find(|refusal| u64::from(refusal.number()) == number)
     }
 }
 
