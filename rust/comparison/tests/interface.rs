@@ -2,10 +2,13 @@
 
 use comparison::{cases, in_32_bits};
 use melontime::{
-    archive_bytes, Archive, EntriesBlock, Header, InMode, Kind, Mode, Network, Outcome, Record,
-    Refusal, Verdict,
+    archive_bytes, Archive, EntriesBlock, Header, InMode, Kind, Mode, Network, NetworkMut, Outcome,
+    Record, Refusal, Verdict, AREA,
 };
-use reference::generate::{any_network, next_step, Habits};
+use reference::area;
+use reference::generate::{
+    any_network, any_ranged_header, any_state, next_step, rule_breaker, Habits, RuleBreak,
+};
 use reference::network::{Answer, State, Step};
 use reference::random::Rng;
 
@@ -38,7 +41,8 @@ fn outcome_of(answer: Answer) -> Outcome {
     }
 }
 
-fn take(network: &mut Network, step: Step) -> Result<Outcome, Refusal> {
+/// A step, whichever bytes the network stands in.
+fn take(mut network: NetworkMut, step: Step) -> Result<Outcome, Refusal> {
     match step {
         Step::Enter { station, register } => {
             network.enter(station as u32, register).map(Outcome::Entry)
@@ -58,6 +62,8 @@ fn take(network: &mut Network, step: Step) -> Result<Outcome, Refusal> {
 /// The accepted records of a run of both.
 fn run(rng: &mut Rng, header: &reference::header::Header) -> Vec<reference::record::Record> {
     let mut network = Network::setup(&header_of(header)).expect("a network");
+    let mut area = vec![rng.next_u64() as u8; AREA];
+    let mut lent = NetworkMut::setup_in(&header_of(header), &mut area).expect("a network");
     let mut state = State::initial(header).expect("a network");
     let mut records = Vec::new();
     let mut habits = Habits::any(rng);
@@ -68,15 +74,70 @@ fn run(rng: &mut Rng, header: &reference::header::Header) -> Vec<reference::reco
         let step = in_32_bits(next_step(rng, &state, &habits));
         let answer = state.step(step);
         let expected = answer.map(outcome_of).map_err(refusal_of);
-        assert_eq!(take(&mut network, step), expected, "{step:?}");
-        assert_eq!(network.rest().ok(), state.rest().ok());
+        assert_eq!(take(network.lend(), step), expected, "{step:?}");
+        assert_eq!(take(lent.lend(), step), expected, "{step:?}");
+        assert_eq!(Ok(network.is_quiescent()), state.rest());
+        assert_eq!(Ok(lent.is_quiescent()), state.rest());
         if let Ok(Answer::Entry(record)) = answer {
             records.push(record);
         }
     }
+    assert_eq!(network.header(), header_of(header));
+    assert_eq!(lent.header(), header_of(header));
+    assert!(network.as_bytes() == lent.as_bytes());
     let stored = Network::from_bytes(network.as_bytes()).expect("an image");
     assert!(stored == network);
     records
+}
+
+/// Bytes as a network, of its own and in lent bytes, by both.
+fn compare_bytes(bytes: &[u8]) {
+    let expected = area::rest(bytes).map_err(refusal_of);
+    let owned = Network::from_bytes(bytes);
+    assert_eq!(owned.map(|network| network.is_quiescent()), expected);
+    let mut area = bytes.to_vec();
+    let lent = NetworkMut::open(&mut area);
+    assert_eq!(lent.map(|network| network.is_quiescent()), expected);
+    assert!(area == bytes);
+}
+
+#[test]
+fn bytes_of_networks() {
+    cases("bytes_of_networks", 500, |rng| {
+        let state = any_state(rng);
+        let mut bytes = area::image(&state);
+        compare_bytes(&bytes);
+        let network = Network::from_bytes(&bytes).expect("an image");
+        assert_eq!(network.header(), header_of(&state.header));
+        compare_bytes(&bytes[..rng.index(AREA)]);
+        bytes[rng.index(area::LINKS_AT)] ^= rng.range(1, 255) as u8;
+        compare_bytes(&bytes);
+        bytes.push(0);
+        compare_bytes(&bytes);
+    });
+}
+
+/// Setup in lent bytes tries their length first, then the fields, then the
+/// rules; where it is refused they are left.
+#[test]
+fn setups_in_lent_bytes() {
+    cases("setups_in_lent_bytes", 500, |rng| {
+        let right = any_network(rng);
+        let way = rng.pick(&RuleBreak::ALL);
+        let rule = rule_breaker(rng, way);
+        let mut field = any_ranged_header(rng);
+        field.stations = rng.pick(&[0, 9, 255]);
+        for header in [right, rule, field] {
+            for length in [AREA, 0, 512, AREA - 1, AREA + 1] {
+                let mut theirs = vec![9; length];
+                let expected = area::setup(&header.to_block_untested(), &mut theirs);
+                let mut ours = vec![9; length];
+                let made = NetworkMut::setup_in(&header_of(&header), &mut ours).map(|_| ());
+                assert_eq!(made, expected.map_err(refusal_of), "{length} bytes");
+                assert!(ours == theirs);
+            }
+        }
+    });
 }
 
 /// A number that a network or a header lacks is refused, however great.
@@ -147,7 +208,7 @@ fn networks_and_archives() {
             reference::archive::build(&header, &expected).as_ref()
         );
         let archive = Archive::open(&bytes).expect("an archive");
-        assert_eq!(archive.header(), Ok(header_of(&header)));
+        assert_eq!(archive.header(), header_of(&header));
         assert_eq!(archive.len(), records.len() as u64);
         assert!(archive.records().eq(records.iter().copied()));
         for (block, part) in bytes[512..].chunks(512).zip(records.chunks(15)) {

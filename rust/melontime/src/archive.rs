@@ -68,8 +68,8 @@ impl<'a> Archive<'a> {
     }
 
     /// The header's fields.
-    pub fn header(&self) -> Result<Header, Refusal> {
-        Header::read(&self.bytes[..BLOCK])
+    pub fn header(&self) -> Header {
+        Header::read(&self.bytes[..BLOCK]).expect("an archive begins with its header block")
     }
 
     /// How many records there are.

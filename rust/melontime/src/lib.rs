@@ -74,7 +74,7 @@ mod refusal;
 
 pub use archive::{archive_bytes, Archive, Records};
 pub use blocks::{write_entries, EntriesBlock, Header};
-pub use network::{InMode, Mode, Network, Outcome};
+pub use network::{InMode, Mode, Network, NetworkMut, Outcome};
 pub use record::{verdict, Kind, Record, Verdict};
 pub use refusal::Refusal;
 

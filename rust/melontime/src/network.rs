@@ -1,9 +1,10 @@
 //! The network of stations and its steps.
 
 use std::fmt;
+use std::ops::DerefMut;
 
 use crate::refusal::{done, refused};
-use crate::{raw, Header, Record, Refusal, AREA, RECORD};
+use crate::{raw, Header, Record, Refusal, AREA, BLOCK, RECORD};
 
 /// A station's mode.
 #[derive(Clone, Copy, Debug, PartialEq, Eq, Hash)]
@@ -50,6 +51,9 @@ pub enum Outcome {
 
 /// A network of stations: the 65,536 bytes of its state.
 ///
+/// The bytes are its own, or lent for as long as it is used: [`NetworkMut`].
+/// The calls are the same.
+///
 /// Stations and peers may be any numbers; those that the network lacks are
 /// refused with [`Refusal::NoSuchStation`].
 ///
@@ -61,18 +65,49 @@ pub enum Outcome {
 /// network.enter(0, 1)?;
 /// network.enter(0, 2)?;
 /// assert_eq!(network.enter(0, 3), Err(Refusal::UsedUp));
+/// assert_eq!(network.enter(1, 3), Err(Refusal::NoSuchStation));
 /// assert_eq!(network.start(0)?, InMode { mode: Mode::Normal, phase: 1 });
 /// assert_eq!(network.enter(0, 3)?.phase(), 1);
 /// # Ok::<(), Refusal>(())
 /// ```
+// Only this module makes one, of bytes that are a well-formed state; only the
+// library changes them afterwards, and leaves them one.
 #[derive(Clone, PartialEq, Eq)]
-pub struct Network {
-    area: Box<[u8]>,
+pub struct Network<A = Box<[u8]>> {
+    area: A,
 }
+
+/// A [`Network`] in lent bytes.
+///
+/// ```
+/// use melontime::{Header, Network, NetworkMut, Refusal, AREA};
+///
+/// let header = Header::new(1, 9).allow(0, 2)?;
+/// let mut area = [0; AREA];
+/// NetworkMut::setup_in(&header, &mut area)?.enter(0, 7)?;
+///
+/// // The state stays in the bytes.
+/// let mut network = NetworkMut::open(&mut area)?;
+/// assert_eq!(network.enter(0, 8)?.counts()[0], 2);
+/// assert_eq!(network.header(), header);
+///
+/// // What asks for lent bytes can be given a network of either kind.
+/// fn quiescent(network: NetworkMut) -> bool {
+///     network.is_quiescent()
+/// }
+/// assert!(quiescent(network));
+/// assert!(quiescent(Network::setup(&header)?.lend()));
+/// # Ok::<(), Refusal>(())
+/// ```
+pub type NetworkMut<'a> = Network<&'a mut [u8]>;
 
 impl Network {
     /// The initial network of a header: every station normal in phase 0, every
-    /// link empty. [`Refusal::Malformed`] for a field outside its range, then
+    /// link empty.
+    ///
+    /// # Errors
+    ///
+    /// [`Refusal::Malformed`] where a field is outside its range, then
     /// [`Refusal::NetworkRule`].
     ///
     /// ```
@@ -87,14 +122,22 @@ impl Network {
         Network::setup_block(&header.to_block()?)
     }
 
-    /// The initial network of a header block, as [`Network::setup`].
+    /// The initial network of a header block.
+    ///
+    /// # Errors
+    ///
+    /// [`Refusal::Malformed`] for bytes that are no header block, then
+    /// [`Refusal::NetworkRule`].
     pub fn setup_block(block: &[u8]) -> Result<Network, Refusal> {
         let mut area = vec![0; AREA].into_boxed_slice();
         done("setup", raw::setup(block, &mut area)).map(|()| Network { area })
     }
 
-    /// The network whose state these bytes are; [`Refusal::IllFormedState`] for
-    /// others.
+    /// The network whose state these bytes are; it keeps a copy of them.
+    ///
+    /// # Errors
+    ///
+    /// [`Refusal::IllFormedState`] for bytes that are no well-formed state.
     ///
     /// ```
     /// use melontime::{Header, Network, Refusal};
@@ -108,17 +151,80 @@ impl Network {
     /// # Ok::<(), Refusal>(())
     /// ```
     pub fn from_bytes(bytes: &[u8]) -> Result<Network, Refusal> {
-        let network = Network { area: bytes.into() };
-        network.rest().map(|_| network)
+        rest(bytes).map(|_| Network { area: bytes.into() })
+    }
+}
+
+impl<'a> NetworkMut<'a> {
+    /// Makes lent bytes the initial network of a header, as [`Network::setup`].
+    /// What they held does not matter; where it is refused they are left.
+    ///
+    /// # Errors
+    ///
+    /// [`Refusal::AreaLength`] where they are not [`AREA`] bytes, then
+    /// [`Refusal::Malformed`] where a field is outside its range, then
+    /// [`Refusal::NetworkRule`].
+    pub fn setup_in(header: &Header, area: &'a mut [u8]) -> Result<NetworkMut<'a>, Refusal> {
+        // Fields that make no block are refused as no bytes are, after the
+        // area's length.
+        let block = header.to_block();
+        NetworkMut::setup_block_in(block.as_ref().map_or(&[], |block| block), area)
     }
 
+    /// Makes lent bytes the initial network of a header block.
+    ///
+    /// # Errors
+    ///
+    /// [`Refusal::AreaLength`] where the area is not [`AREA`] bytes, then
+    /// [`Refusal::Malformed`] for bytes that are no header block, then
+    /// [`Refusal::NetworkRule`].
+    pub fn setup_block_in(block: &[u8], area: &'a mut [u8]) -> Result<NetworkMut<'a>, Refusal> {
+        done("setup", raw::setup(block, area)).map(|()| Network { area })
+    }
+
+    /// The network whose state lent bytes are.
+    ///
+    /// # Errors
+    ///
+    /// [`Refusal::IllFormedState`] for bytes that are no well-formed state.
+    pub fn open(area: &'a mut [u8]) -> Result<NetworkMut<'a>, Refusal> {
+        rest(area).map(|_| Network { area })
+    }
+}
+
+impl<A: DerefMut<Target = [u8]>> Network<A> {
     /// The bytes of the state.
     pub fn as_bytes(&self) -> &[u8] {
         &self.area
     }
 
-    /// An own entry of a station, with a register number.
-    /// [`Refusal::UsedUp`] where its allowance of this phase is used up.
+    /// The same network in its bytes as lent ones.
+    pub fn lend(&mut self) -> NetworkMut<'_> {
+        Network {
+            area: &mut self.area,
+        }
+    }
+
+    /// The header in force.
+    ///
+    /// ```
+    /// use melontime::{Header, Network, Refusal};
+    ///
+    /// let header = Header::new(2, 7).link(0, 1, 2)?;
+    /// assert_eq!(Network::setup(&header)?.header(), header);
+    /// # Ok::<(), Refusal>(())
+    /// ```
+    pub fn header(&self) -> Header {
+        Header::read(&self.area[..BLOCK]).expect("a state begins with its header block")
+    }
+
+    /// An own entry of a station, with a register number. Every mode allows it.
+    ///
+    /// # Errors
+    ///
+    /// [`Refusal::NoSuchStation`]; [`Refusal::UsedUp`] where the station's
+    /// allowance of this phase is used up; [`Refusal::BeyondBound`] where its
+    /// count would be above the ceiling.
     pub fn enter(&mut self, station: u32, register: u32) -> Result<Record, Refusal> {
         let mut event = [0; RECORD];
         match raw::enter(&mut self.area, &mut event, station, register) {
@@ -128,9 +234,14 @@ impl Network {
     }
 
     /// A message from a station to a neighbour, with a register number.
+    ///
+    /// # Errors
+    ///
+    /// [`Refusal::NoSuchStation`], also for a peer that is no neighbour;
     /// [`Refusal::ModeForbids`] where the station is mute, or in stand-by and
-    /// has not seen the peer's `reset_done`, then [`Refusal::UsedUp`] where the
-    /// link's limit of this phase is used up.
+    /// has not seen the peer's `reset_done`; [`Refusal::UsedUp`] where the link's
+    /// limit of this phase is used up; [`Refusal::BeyondBound`] where the
+    /// station's count would be above the ceiling, or the link has no place.
     ///
     /// ```
     /// use melontime::{Header, Network, Refusal};
@@ -161,8 +272,14 @@ impl Network {
     }
 
     /// A station takes the first item of the link from a neighbour: a message,
-    /// which is an entry, or a control item. [`Refusal::EmptyLink`] where
-    /// there is none.
+    /// which is an entry, or a control item of a reset. Every mode allows it.
+    ///
+    /// # Errors
+    ///
+    /// [`Refusal::NoSuchStation`], also for a peer that is no neighbour;
+    /// [`Refusal::EmptyLink`]; [`Refusal::BeyondBound`] where the station's
+    /// count would be above the ceiling or its phase above 999,999, or a link
+    /// has no place for a control item.
     ///
     /// ```
     /// use melontime::{Header, InMode, Mode, Network, Outcome, Refusal};
@@ -184,37 +301,47 @@ impl Network {
         }
     }
 
-    /// A station starts a reset, and answers its mode and phase after.
-    /// [`Refusal::ModeForbids`] where the station is not normal,
-    /// [`Refusal::LastPhase`] in phase 999,999.
+    /// A station starts a reset, and answers where it is after.
+    ///
+    /// # Errors
+    ///
+    /// [`Refusal::NoSuchStation`]; [`Refusal::ModeForbids`] where the station
+    /// is not normal; [`Refusal::LastPhase`] in phase 999,999;
+    /// [`Refusal::BeyondBound`] where a link has no place for a control item.
     pub fn start(&mut self, station: u32) -> Result<InMode, Refusal> {
         let mut event = [0; RECORD];
         in_mode("start", raw::start(&mut self.area, &mut event, station))
     }
 
-    /// Whether every station is normal and all phases are equal.
+    /// Whether every station is normal and all phases are equal: what document
+    /// 01 calls rest. Links may hold messages.
     ///
     /// ```
     /// use melontime::{Header, Network, Refusal};
     ///
     /// let mut network = Network::setup(&Header::new(2, 7).link(0, 1, 2)?)?;
-    /// assert!(network.rest()?);
+    /// assert!(network.is_quiescent());
     /// network.start(0)?;
-    /// assert!(!network.rest()?);
+    /// assert!(!network.is_quiescent());
     /// # Ok::<(), Refusal>(())
     /// ```
-    pub fn rest(&self) -> Result<bool, Refusal> {
-        match raw::rest(&self.area) {
-            100 => Ok(true),
-            101 => Ok(false),
-            other => Err(refused("rest", other)),
-        }
+    pub fn is_quiescent(&self) -> bool {
+        rest(&self.area).expect("the state is well formed")
     }
 }
 
-impl fmt::Debug for Network {
+impl<A> fmt::Debug for Network<A> {
     fn fmt(&self, f: &mut fmt::Formatter<'_>) -> fmt::Result {
         f.debug_struct("Network").finish_non_exhaustive()
+    }
+}
+
+/// Whether a state is quiescent; refused for bytes that are no state.
+fn rest(area: &[u8]) -> Result<bool, Refusal> {
+    match raw::rest(area) {
+        100 => Ok(true),
+        101 => Ok(false),
+        other => Err(refused("rest", other)),
     }
 }
 
