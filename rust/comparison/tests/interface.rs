@@ -7,7 +7,8 @@ use melontime::{
 };
 use reference::area;
 use reference::generate::{
-    any_network, any_ranged_header, any_state, next_step, rule_breaker, Habits, RuleBreak,
+    any_archive, any_network, any_ranged_header, any_state, mutated_archive, next_step,
+    rule_breaker, Habits, RuleBreak,
 };
 use reference::network::{Answer, State, Step};
 use reference::random::Rng;
@@ -38,6 +39,15 @@ fn outcome_of(answer: Answer) -> Outcome {
             },
             phase,
         }),
+    }
+}
+
+fn verdict_of(verdict: reference::order::Verdict) -> Verdict {
+    match verdict {
+        reference::order::Verdict::Before => Verdict::Before,
+        reference::order::Verdict::After => Verdict::After,
+        reference::order::Verdict::Same => Verdict::Same,
+        reference::order::Verdict::Unordered => Verdict::Unordered,
     }
 }
 
@@ -178,6 +188,36 @@ fn numbers_of_refusals() {
     }
 }
 
+/// Verdicts by record numbers by both.
+fn compare_order(archive: Archive, i: u64, j: u64) {
+    let expected =
+        reference::archive::verdict_by_number(archive.as_bytes(), i as usize, j as usize);
+    let expected = expected.map(verdict_of).map_err(refusal_of);
+    assert_eq!(archive.order(i, j), expected, "records {i} and {j}");
+}
+
+#[test]
+fn orders_by_number() {
+    cases("orders_by_number", 400, |rng| {
+        let bytes = match rng.below(4) {
+            0 => mutated_archive(rng, 60),
+            _ => any_archive(rng, 60),
+        };
+        let opened = Archive::open(&bytes);
+        let count = reference::archive::record_count(&bytes).map_err(refusal_of);
+        assert_eq!(opened.map(|archive| archive.len()), count.map(|n| n as u64));
+        let Ok(archive) = opened else { return };
+        let last = archive.len();
+        for (i, j) in [(0, 0), (0, last), (last, 0), (last, u64::MAX), (1 << 32, 0)] {
+            compare_order(archive, i, j);
+        }
+        for _ in 0..20 {
+            let (i, j) = (rng.below(last + 1), rng.below(last + 1));
+            compare_order(archive, i, j);
+        }
+    });
+}
+
 #[test]
 fn networks_and_archives() {
     cases("networks_and_archives", 150, |rng| {
@@ -218,6 +258,7 @@ fn networks_and_archives() {
         }
         for _ in 0..10 {
             let number = rng.below(archive.len() + 2);
+            compare_order(archive, number, rng.below(archive.len() + 2));
             let found = archive.found(number);
             let list = archive.unordered(number);
             let Some(&record) = records.get(number as usize) else {

@@ -457,6 +457,11 @@ fn main() -> Result<(), Box<dyn Error>> {
         list.sort_unstable();
         assert_eq!(list, unordered);
         if a % 60 == 0 {
+            let last = records.len() - 1;
+            assert_eq!(
+                archive.order(a as u64, last as u64),
+                first.verdict(&records[last])
+            );
             let (phase, counts) = (first.phase(), &first.counts()[..STATIONS as usize]);
             println!(
                 "record {a}: station {}, phase {phase}, counts {counts:?}, unordered with {}",

@@ -1,7 +1,7 @@
 //! Whole archives.
 
 use crate::refusal::{done, refused};
-use crate::{raw, write_entries, Header, Record, Refusal, BLOCK, MAX_RECORDS, RECORD};
+use crate::{raw, write_entries, Header, Record, Refusal, Verdict, BLOCK, MAX_RECORDS, RECORD};
 
 /// The bytes of the archive of a header and records: the header block, then
 /// entries blocks of fifteen records, the last perhaps of fewer.
@@ -32,9 +32,9 @@ pub fn archive_bytes(header: &Header, records: &[Record]) -> Result<Vec<u8>, Ref
 /// An archive that has passed its test, on its bytes.
 ///
 /// Its records are numbered from 0. The library tests the whole archive again
-/// in [`found`](Archive::found) and [`unordered`](Archive::unordered), since it
-/// trusts no bytes that it is lent; [`records`](Archive::records) tests a block
-/// at a time.
+/// in [`found`](Archive::found) and [`unordered`](Archive::unordered), and
+/// twice in [`order`](Archive::order), since it trusts no bytes that it is
+/// lent; [`records`](Archive::records) tests a block at a time.
 #[derive(Clone, Copy, Debug)]
 pub struct Archive<'a> {
     bytes: &'a [u8],
@@ -99,6 +99,33 @@ impl<'a> Archive<'a> {
         let mut bytes = [0; RECORD];
         let answer = raw::found_record(self.bytes, number, &mut bytes);
         done("found_record", answer).map(|()| Record::written(bytes))
+    }
+
+    /// The order of two events by the numbers of their records.
+    ///
+    /// # Errors
+    ///
+    /// [`Refusal::NoSuchRecord`] where there is no record i or j, then
+    /// [`Refusal::DifferentPhases`].
+    ///
+    /// ```
+    /// use melontime::{archive_bytes, Archive, Header, Network, Refusal, Verdict};
+    ///
+    /// let header = Header::new(1, 9).allow(0, 2)?;
+    /// let mut network = Network::setup(&header)?;
+    /// let mut records = vec![network.enter(0, 1)?, network.enter(0, 2)?];
+    /// network.start(0)?;
+    /// records.push(network.enter(0, 3)?);
+    /// let bytes = archive_bytes(&header, &records)?;
+    /// let archive = Archive::open(&bytes)?;
+    /// assert_eq!(archive.order(0, 1)?, Verdict::Before);
+    /// assert_eq!(archive.order(1, 2), Err(Refusal::DifferentPhases));
+    /// assert_eq!(archive.order(2, 3), Err(Refusal::NoSuchRecord));
+    /// # Ok::<(), Refusal>(())
+    /// ```
+    pub fn order(&self, i: u64, j: u64) -> Result<Verdict, Refusal> {
+        let (first, second) = (self.found(i)?, self.found(j)?);
+        first.verdict(&second)
     }
 
     /// The numbers of the records of a record's phase that are unordered with

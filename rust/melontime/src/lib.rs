@@ -52,9 +52,8 @@
 //!
 //! let archive = Archive::open(&bytes)?;
 //! assert_eq!(archive.len(), 3);
-//! assert_eq!(archive.unordered(1)?, [0, 2]);
-//! let (first, last) = (archive.found(0)?, archive.found(2)?);
-//! assert_eq!(first.verdict(&last)?, Verdict::Before);
+//! assert_eq!(archive.unordered(0)?, [1]);
+//! assert_eq!(archive.order(0, 2)?, Verdict::Before);
 //! # Ok::<(), Refusal>(())
 //! ```
 //!
