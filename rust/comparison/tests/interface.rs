@@ -103,10 +103,10 @@ fn run(rng: &mut Rng, header: &reference::header::Header) -> Vec<reference::reco
 /// Bytes as a network, of its own and in lent bytes, by both.
 fn compare_bytes(bytes: &[u8]) {
     let expected = area::rest(bytes).map_err(refusal_of);
-    let owned = Network::from_bytes(bytes);
+    let owned: Result<Network, Refusal> = bytes.try_into();
     assert_eq!(owned.map(|network| network.is_quiescent()), expected);
     let mut area = bytes.to_vec();
-    let lent = NetworkMut::open(&mut area);
+    let lent: Result<NetworkMut, Refusal> = area.as_mut_slice().try_into();
     assert_eq!(lent.map(|network| network.is_quiescent()), expected);
     assert!(area == bytes);
 }
@@ -203,7 +203,7 @@ fn orders_by_number() {
             0 => mutated_archive(rng, 60),
             _ => any_archive(rng, 60),
         };
-        let opened = Archive::open(&bytes);
+        let opened = Archive::try_from(&bytes[..]);
         let count = reference::archive::record_count(&bytes).map_err(refusal_of);
         assert_eq!(opened.map(|archive| archive.len()), count.map(|n| n as u64));
         let Ok(archive) = opened else { return };
@@ -250,9 +250,14 @@ fn networks_and_archives() {
         let archive = Archive::open(&bytes).expect("an archive");
         assert_eq!(archive.header(), header_of(&header));
         assert_eq!(archive.len(), records.len() as u64);
-        assert!(archive.records().eq(records.iter().copied()));
+        assert_eq!(archive.records().len(), records.len());
+        assert!(archive.into_iter().eq(records.iter().copied()));
+        assert!(archive.records().rev().eq(records.iter().rev().copied()));
+        let (skipped, step) = (rng.index(20), 1 + rng.index(20));
+        let some = archive.records().skip(skipped).step_by(step);
+        assert!(some.eq(records.iter().skip(skipped).step_by(step).copied()));
         for (block, part) in bytes[512..].chunks(512).zip(records.chunks(15)) {
-            let block = EntriesBlock::open(block).expect("a block");
+            let block = EntriesBlock::try_from(block).expect("a block");
             assert_eq!(block.count(), part.len());
             assert_eq!(block.record(0), Ok(part[0]));
         }

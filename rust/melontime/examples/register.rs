@@ -129,7 +129,7 @@ impl Reply {
         let control = |mode| Some(Reply::Control(InMode { mode, phase }));
         match (bytes[0], bytes[1]) {
             (b'n', number) => Refusal::from_number(number.into()).map(Reply::Refused),
-            (b'e', _) => Record::from_bytes(&bytes[1..]).ok().map(Reply::Entry),
+            (b'e', _) => Record::try_from(&bytes[1..]).ok().map(Reply::Entry),
             (b'm', 0) => control(Mode::Normal),
             (b'm', 1) => control(Mode::Mute),
             (b'm', 2) => control(Mode::StandBy),
@@ -420,6 +420,7 @@ fn main() -> Result<(), Box<dyn Error>> {
     fs::remove_file(&file)?;
     let archive = Archive::open(&bytes)?;
     assert_eq!(archive.header(), header);
+    assert_eq!(archive.records().len(), records.len());
     assert!(archive.records().eq(records.iter().copied()));
     println!("the archive has {} bytes and passes its test", bytes.len());
 

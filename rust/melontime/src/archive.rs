@@ -49,7 +49,7 @@ impl<'a> Archive<'a> {
     ///
     /// let header = Header::new(1, 40).to_block()?;
     /// assert!(Archive::open(&header)?.is_empty());
-    /// assert_eq!(Archive::open(&[]).unwrap_err(), Refusal::Malformed);
+    /// assert_eq!(Archive::try_from(&[][..]).unwrap_err(), Refusal::Malformed);
     /// # Ok::<(), Refusal>(())
     /// ```
     pub fn open(bytes: &'a [u8]) -> Result<Archive<'a>, Refusal> {
@@ -162,14 +162,37 @@ impl<'a> Archive<'a> {
     /// let mut network = Network::setup(&header)?;
     /// let records = (0..17).map(|k| network.enter(0, k)).collect::<Result<Vec<_>, _>>()?;
     /// let bytes = archive_bytes(&header, &records)?;
-    /// assert!(Archive::open(&bytes)?.records().eq(records));
+    /// let archive = Archive::open(&bytes)?;
+    /// assert!(archive.records().eq(records.iter().copied()));
+    /// assert_eq!(archive.records().next_back(), records.last().copied());
+    /// for record in &archive {
+    ///     assert_eq!(record.station(), 0);
+    /// }
     /// # Ok::<(), Refusal>(())
     /// ```
     pub fn records(&self) -> Records<'a> {
         Records {
             blocks: &self.bytes[BLOCK..],
-            numbers: 0..self.count,
+            numbers: 0..self.count as usize,
         }
+    }
+}
+
+/// As [`Archive::open`].
+impl<'a> TryFrom<&'a [u8]> for Archive<'a> {
+    type Error = Refusal;
+
+    fn try_from(bytes: &'a [u8]) -> Result<Archive<'a>, Refusal> {
+        Archive::open(bytes)
+    }
+}
+
+impl<'a> IntoIterator for &Archive<'a> {
+    type Item = Record;
+    type IntoIter = Records<'a>;
+
+    fn into_iter(self) -> Records<'a> {
+        self.records()
     }
 }
 
@@ -186,22 +209,41 @@ impl<'a> IntoIterator for Archive<'a> {
 #[derive(Clone, Debug)]
 pub struct Records<'a> {
     blocks: &'a [u8],
-    numbers: std::ops::Range<u64>,
+    numbers: std::ops::Range<usize>,
+}
+
+impl Records<'_> {
+    fn read(&self, number: usize) -> Record {
+        let block = &self.blocks[number / MAX_RECORDS * BLOCK..][..BLOCK];
+        let mut bytes = [0; RECORD];
+        let answer = raw::read_record(block, (number % MAX_RECORDS) as u32, &mut bytes);
+        done("read_record", answer).expect("the archive has passed its test");
+        Record::written(bytes)
+    }
 }
 
 impl Iterator for Records<'_> {
     type Item = Record;
 
     fn next(&mut self) -> Option<Record> {
-        let number = self.numbers.next()? as usize;
-        let block = &self.blocks[number / MAX_RECORDS * BLOCK..][..BLOCK];
-        let mut bytes = [0; RECORD];
-        let answer = raw::read_record(block, (number % MAX_RECORDS) as u32, &mut bytes);
-        done("read_record", answer).expect("the archive has passed its test");
-        Some(Record::written(bytes))
+        self.numbers.next().map(|number| self.read(number))
+    }
+
+    fn nth(&mut self, n: usize) -> Option<Record> {
+        self.numbers.nth(n).map(|number| self.read(number))
     }
 
     fn size_hint(&self) -> (usize, Option<usize>) {
         self.numbers.size_hint()
     }
 }
+
+impl DoubleEndedIterator for Records<'_> {
+    fn next_back(&mut self) -> Option<Record> {
+        self.numbers.next_back().map(|number| self.read(number))
+    }
+}
+
+impl ExactSizeIterator for Records<'_> {}
+
+impl std::iter::FusedIterator for Records<'_> {}

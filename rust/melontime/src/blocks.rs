@@ -105,7 +105,7 @@ impl Header {
     /// let mut block = Header::new(1, 9).to_block()?;
     /// assert_eq!(Header::read(&block)?.t, 9);
     /// block[100] = 1;
-    /// assert_eq!(Header::read(&block), Err(Refusal::Malformed));
+    /// assert_eq!(Header::try_from(&block[..]), Err(Refusal::Malformed));
     /// # Ok::<(), Refusal>(())
     /// ```
     pub fn read(block: &[u8]) -> Result<Header, Refusal> {
@@ -118,6 +118,15 @@ impl Header {
             allowances: std::array::from_fn(|i| short(3 + 2 * i)),
             limits: std::array::from_fn(|i| std::array::from_fn(|j| fields[19 + 8 * i + j])),
         })
+    }
+}
+
+/// As [`Header::read`].
+impl TryFrom<&[u8]> for Header {
+    type Error = Refusal;
+
+    fn try_from(block: &[u8]) -> Result<Header, Refusal> {
+        Header::read(block)
     }
 }
 
@@ -202,5 +211,14 @@ impl<'a> EntriesBlock<'a> {
         let mut bytes = [0; RECORD];
         let answer = raw::read_record(self.block, k, &mut bytes);
         done("read_record", answer).map(|()| Record::written(bytes))
+    }
+}
+
+/// As [`EntriesBlock::open`].
+impl<'a> TryFrom<&'a [u8]> for EntriesBlock<'a> {
+    type Error = Refusal;
+
+    fn try_from(block: &'a [u8]) -> Result<EntriesBlock<'a>, Refusal> {
+        EntriesBlock::open(block)
     }
 }

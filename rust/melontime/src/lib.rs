@@ -54,6 +54,7 @@
 //! assert_eq!(archive.len(), 3);
 //! assert_eq!(archive.unordered(0)?, [1]);
 //! assert_eq!(archive.order(0, 2)?, Verdict::Before);
+//! assert!(archive.into_iter().all(|record| record.phase() == 0));
 //! # Ok::<(), Refusal>(())
 //! ```
 //!

@@ -148,6 +148,9 @@ impl Network {
     /// let mut again = Network::from_bytes(&stored)?;
     /// assert_eq!(again.enter(0, 8)?.counts()[0], 2);
     /// assert_eq!(Network::from_bytes(&stored[1..]).unwrap_err(), Refusal::IllFormedState);
+    ///
+    /// let same: Network = stored.as_slice().try_into()?;
+    /// assert!(same == network);
     /// # Ok::<(), Refusal>(())
     /// ```
     pub fn from_bytes(bytes: &[u8]) -> Result<Network, Refusal> {
@@ -333,6 +336,24 @@ impl<A: DerefMut<Target = [u8]>> Network<A> {
 impl<A> fmt::Debug for Network<A> {
     fn fmt(&self, f: &mut fmt::Formatter<'_>) -> fmt::Result {
         f.debug_struct("Network").finish_non_exhaustive()
+    }
+}
+
+/// As [`Network::from_bytes`].
+impl TryFrom<&[u8]> for Network {
+    type Error = Refusal;
+
+    fn try_from(bytes: &[u8]) -> Result<Network, Refusal> {
+        Network::from_bytes(bytes)
+    }
+}
+
+/// As [`NetworkMut::open`](Network::open).
+impl<'a> TryFrom<&'a mut [u8]> for NetworkMut<'a> {
+    type Error = Refusal;
+
+    fn try_from(area: &'a mut [u8]) -> Result<NetworkMut<'a>, Refusal> {
+        NetworkMut::open(area)
     }
 }
 

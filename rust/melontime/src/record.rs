@@ -53,7 +53,7 @@ impl fmt::Display for Verdict {
 /// assert_eq!(record.counts(), [1, 0, 0, 0, 0, 0, 0, 0]);
 ///
 /// assert_eq!(Record::from_bytes(record.as_bytes()), Ok(record));
-/// assert_eq!(Record::from_bytes(&[0; 32]), Err(Refusal::Malformed));
+/// assert_eq!(Record::try_from(&[0; 32][..]), Err(Refusal::Malformed));
 /// # Ok::<(), Refusal>(())
 /// ```
 #[derive(Clone, Copy, PartialEq, Eq, Hash)]
@@ -151,6 +151,15 @@ impl fmt::Debug for Record {
             .field("register", &self.register())
             .field("counts", &self.counts())
             .finish()
+    }
+}
+
+/// As [`Record::from_bytes`].
+impl TryFrom<&[u8]> for Record {
+    type Error = Refusal;
+
+    fn try_from(bytes: &[u8]) -> Result<Record, Refusal> {
+        Record::from_bytes(bytes)
     }
 }
 
