@@ -5,10 +5,13 @@ use crate::{raw, write_entries, Header, Record, Refusal, Verdict, BLOCK, MAX_REC
 
 /// The bytes of the archive of a header and records: the header block, then
 /// entries blocks of fifteen records, the last perhaps of fewer.
-/// [`Refusal::Malformed`] where a field of the header is outside its range.
 ///
 /// Whether the header knows every record's station and link is for
 /// [`Archive::open`] to say.
+///
+/// # Errors
+///
+/// [`Refusal::Malformed`] where a field of the header is outside its range.
 ///
 /// ```
 /// use melontime::{archive_bytes, Archive, Header, Network, Refusal};
@@ -42,7 +45,11 @@ pub struct Archive<'a> {
 }
 
 impl<'a> Archive<'a> {
-    /// Tests an archive; [`Refusal::Malformed`] for bytes that are none.
+    /// Tests an archive.
+    ///
+    /// # Errors
+    ///
+    /// [`Refusal::Malformed`] for bytes that are no archive.
     ///
     /// ```
     /// use melontime::{Archive, Header, Refusal};
@@ -63,6 +70,7 @@ impl<'a> Archive<'a> {
     }
 
     /// The archive's bytes.
+    #[must_use]
     pub fn as_bytes(&self) -> &'a [u8] {
         self.bytes
     }
@@ -73,16 +81,22 @@ impl<'a> Archive<'a> {
     }
 
     /// How many records there are.
+    #[must_use]
     pub fn len(&self) -> u64 {
         self.count
     }
 
     /// Whether there is no record.
+    #[must_use]
     pub fn is_empty(&self) -> bool {
         self.count == 0
     }
 
-    /// The record with a number; [`Refusal::NoSuchRecord`] where there is none.
+    /// The record with a number.
+    ///
+    /// # Errors
+    ///
+    /// [`Refusal::NoSuchRecord`] where there is none.
     ///
     /// ```
     /// use melontime::{archive_bytes, Archive, Header, Network, Refusal};
@@ -129,8 +143,11 @@ impl<'a> Archive<'a> {
     }
 
     /// The numbers of the records of a record's phase that are unordered with
-    /// it, in no promised order; [`Refusal::NoSuchRecord`] where there is no
-    /// such record.
+    /// it, in no promised order.
+    ///
+    /// # Errors
+    ///
+    /// [`Refusal::NoSuchRecord`] where there is no such record.
     ///
     /// ```
     /// use melontime::{archive_bytes, Archive, Header, Network, Refusal};
@@ -207,6 +224,7 @@ impl<'a> IntoIterator for Archive<'a> {
 
 /// The records of an [`Archive`], in the order of their numbers.
 #[derive(Clone, Debug)]
+#[must_use = "it reads nothing before it is asked for a record"]
 pub struct Records<'a> {
     blocks: &'a [u8],
     numbers: std::ops::Range<usize>,

@@ -21,6 +21,7 @@ const FIELDS: usize = 83;
 /// # Ok::<(), Refusal>(())
 /// ```
 #[derive(Clone, Copy, Debug, PartialEq, Eq, Hash)]
+#[must_use = "a header is changed by making another"]
 pub struct Header {
     /// How many stations there are, 1 to 8. They are 0 to n - 1.
     pub n: u32,
@@ -75,8 +76,11 @@ impl Header {
         Ok(self)
     }
 
-    /// The header block of these fields; [`Refusal::Malformed`] where n, t or a
-    /// limit is outside its range.
+    /// The header block of these fields.
+    ///
+    /// # Errors
+    ///
+    /// [`Refusal::Malformed`] where n, t or a limit is outside its range.
     ///
     /// ```
     /// use melontime::{Header, Refusal};
@@ -97,7 +101,11 @@ impl Header {
         done("write_header", answer).map(|()| block)
     }
 
-    /// The fields of a header block; [`Refusal::Malformed`] for other bytes.
+    /// The fields of a header block.
+    ///
+    /// # Errors
+    ///
+    /// [`Refusal::Malformed`] for bytes that are no header block.
     ///
     /// ```
     /// use melontime::{Header, Refusal};
@@ -141,6 +149,9 @@ fn place(station: u32) -> Result<usize, Refusal> {
 }
 
 /// The entries block of a number, from 1, and 1 to 15 records.
+///
+/// # Errors
+///
 /// [`Refusal::NoSuchRecord`] for another count of records, then
 /// [`Refusal::Malformed`] for the number 0.
 ///
@@ -183,7 +194,11 @@ pub struct EntriesBlock<'a> {
 }
 
 impl<'a> EntriesBlock<'a> {
-    /// Tests a block; [`Refusal::Malformed`] for bytes that are none.
+    /// Tests a block.
+    ///
+    /// # Errors
+    ///
+    /// [`Refusal::Malformed`] for bytes that are no entries block.
     pub fn open(block: &'a [u8]) -> Result<EntriesBlock<'a>, Refusal> {
         match raw::read_entries(block) {
             answer @ 1000.. => Ok(EntriesBlock {
@@ -196,16 +211,22 @@ impl<'a> EntriesBlock<'a> {
     }
 
     /// The block's number.
+    #[must_use]
     pub fn number(&self) -> u32 {
         self.number
     }
 
     /// How many records it holds.
+    #[must_use]
     pub fn count(&self) -> usize {
         self.count
     }
 
-    /// Record k, from 0; [`Refusal::NoSuchRecord`] where there is none.
+    /// Record k, from 0.
+    ///
+    /// # Errors
+    ///
+    /// [`Refusal::NoSuchRecord`] where there is none.
     pub fn record(&self, k: usize) -> Result<Record, Refusal> {
         let k = u32::try_from(k).map_err(|_| Refusal::NoSuchRecord)?;
         let mut bytes = [0; RECORD];

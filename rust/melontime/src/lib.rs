@@ -64,6 +64,7 @@
 
 #![deny(unsafe_code)]
 #![warn(missing_docs)]
+#![warn(clippy::missing_errors_doc, clippy::must_use_candidate)]
 
 mod archive;
 mod blocks;

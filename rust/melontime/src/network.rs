@@ -197,11 +197,13 @@ impl<'a> NetworkMut<'a> {
 
 impl<A: DerefMut<Target = [u8]>> Network<A> {
     /// The bytes of the state.
+    #[must_use]
     pub fn as_bytes(&self) -> &[u8] {
         &self.area
     }
 
     /// The same network in its bytes as lent ones.
+    #[must_use]
     pub fn lend(&mut self) -> NetworkMut<'_> {
         Network {
             area: &mut self.area,
@@ -328,6 +330,7 @@ impl<A: DerefMut<Target = [u8]>> Network<A> {
     /// assert!(!network.is_quiescent());
     /// # Ok::<(), Refusal>(())
     /// ```
+    #[must_use]
     pub fn is_quiescent(&self) -> bool {
         rest(&self.area).expect("the state is well formed")
     }

@@ -116,12 +116,14 @@ mod library {
 }
 
 /// Makes an area the initial network of a header block.
+#[must_use]
 pub fn setup(block: &[u8], area: &mut [u8]) -> u64 {
     // SAFETY: see the head of this module.
     unsafe { library::melontime_setup(block.as_ptr(), block.len(), area.as_mut_ptr(), area.len()) }
 }
 
 /// An own entry of a station.
+#[must_use]
 pub fn enter(area: &mut [u8], event: &mut [u8], station: u32, register: u32) -> u64 {
     // SAFETY: see the head of this module.
     unsafe {
@@ -137,6 +139,7 @@ pub fn enter(area: &mut [u8], event: &mut [u8], station: u32, register: u32) -> 
 }
 
 /// A message from a station to its peer.
+#[must_use]
 pub fn send(area: &mut [u8], event: &mut [u8], station: u32, peer: u32, register: u32) -> u64 {
     // SAFETY: see the head of this module.
     unsafe {
@@ -153,6 +156,7 @@ pub fn send(area: &mut [u8], event: &mut [u8], station: u32, peer: u32, register
 }
 
 /// A station takes the first item of the link from its peer.
+#[must_use]
 pub fn recv(area: &mut [u8], event: &mut [u8], station: u32, peer: u32) -> u64 {
     // SAFETY: see the head of this module.
     unsafe {
@@ -168,6 +172,7 @@ pub fn recv(area: &mut [u8], event: &mut [u8], station: u32, peer: u32) -> u64 {
 }
 
 /// A station starts a reset.
+#[must_use]
 pub fn start(area: &mut [u8], event: &mut [u8], station: u32) -> u64 {
     // SAFETY: see the head of this module.
     unsafe {
@@ -182,12 +187,14 @@ pub fn start(area: &mut [u8], event: &mut [u8], station: u32) -> u64 {
 }
 
 /// Whether every station is normal in one phase.
+#[must_use]
 pub fn rest(area: &[u8]) -> u64 {
     // SAFETY: see the head of this module.
     unsafe { library::melontime_rest(area.as_ptr(), area.len()) }
 }
 
 /// The order of two records.
+#[must_use]
 pub fn verdict(first: &[u8], second: &[u8]) -> u64 {
     // SAFETY: see the head of this module.
     unsafe {
@@ -197,6 +204,7 @@ pub fn verdict(first: &[u8], second: &[u8]) -> u64 {
 
 /// Writes a header block from its fields: eight allowances of two bytes, and
 /// the limits row by row.
+#[must_use]
 pub fn write_header(n: u32, t: u32, allowances: &[u8], limits: &[u8], area: &mut [u8]) -> u64 {
     // SAFETY: see the head of this module.
     unsafe {
@@ -215,6 +223,7 @@ pub fn write_header(n: u32, t: u32, allowances: &[u8], limits: &[u8], area: &mut
 
 /// Reads a header block's fields: n in a byte, t in two, then the allowances
 /// and limits as [`write_header`] takes them.
+#[must_use]
 pub fn read_header(block: &[u8], fields: &mut [u8]) -> u64 {
     // SAFETY: see the head of this module.
     unsafe {
@@ -228,6 +237,7 @@ pub fn read_header(block: &[u8], fields: &mut [u8]) -> u64 {
 }
 
 /// Writes an entries block from its number and its records' bytes.
+#[must_use]
 pub fn write_entries(number: u32, records: &[u8], area: &mut [u8]) -> u64 {
     // SAFETY: see the head of this module.
     unsafe {
@@ -242,12 +252,14 @@ pub fn write_entries(number: u32, records: &[u8], area: &mut [u8]) -> u64 {
 }
 
 /// The number of an entries block and its count of records.
+#[must_use]
 pub fn read_entries(block: &[u8]) -> u64 {
     // SAFETY: see the head of this module.
     unsafe { library::melontime_read_entries(block.as_ptr(), block.len()) }
 }
 
 /// Copies record k of an entries block.
+#[must_use]
 pub fn read_record(block: &[u8], k: u32, area: &mut [u8]) -> u64 {
     // SAFETY: see the head of this module.
     unsafe {
@@ -262,12 +274,14 @@ pub fn read_record(block: &[u8], k: u32, area: &mut [u8]) -> u64 {
 }
 
 /// Tests an archive and counts its records.
+#[must_use]
 pub fn archive_records(archive: &[u8]) -> u64 {
     // SAFETY: see the head of this module.
     unsafe { library::melontime_archive_records(archive.as_ptr(), archive.len()) }
 }
 
 /// Copies a record of an archive by its number.
+#[must_use]
 pub fn found_record(archive: &[u8], number: u64, area: &mut [u8]) -> u64 {
     // SAFETY: see the head of this module.
     unsafe {
@@ -282,6 +296,7 @@ pub fn found_record(archive: &[u8], number: u64, area: &mut [u8]) -> u64 {
 }
 
 /// Lists the records of a record's phase that are unordered with it.
+#[must_use]
 pub fn unordered(archive: &[u8], number: u64, list: &mut [u64]) -> u64 {
     // SAFETY: see the head of this module.
     unsafe {

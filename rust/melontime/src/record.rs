@@ -45,7 +45,7 @@ impl fmt::Display for Verdict {
 /// ```
 /// use melontime::{Header, Kind, Network, Record, Refusal};
 ///
-/// let header = Header::new(2, 7).allow(0, 3)?.link(0, 1, 2)?;
+/// let header = Header::new(2, 7).link(0, 1, 2)?;
 /// let record = Network::setup(&header)?.send(0, 1, 502)?;
 /// assert_eq!(record.kind(), Kind::Sent);
 /// assert_eq!((record.station(), record.peer()), (0, Some(1)));
@@ -65,7 +65,11 @@ impl Record {
         Record(bytes)
     }
 
-    /// The record that these bytes are; [`Refusal::Malformed`] for others.
+    /// The record that these bytes are.
+    ///
+    /// # Errors
+    ///
+    /// [`Refusal::Malformed`] for bytes that are no record.
     pub fn from_bytes(bytes: &[u8]) -> Result<Record, Refusal> {
         // A verdict tests both of its records, and one is the same as itself.
         verdict(bytes, bytes)?;
@@ -74,11 +78,13 @@ impl Record {
     }
 
     /// The record's 32 bytes, as an archive holds them.
+    #[must_use]
     pub fn as_bytes(&self) -> &[u8; RECORD] {
         &self.0
     }
 
     /// The kind of the event.
+    #[must_use]
     pub fn kind(&self) -> Kind {
         match self.0[0] {
             1 => Kind::Own,
@@ -89,12 +95,14 @@ impl Record {
     }
 
     /// The station whose event it is.
+    #[must_use]
     pub fn station(&self) -> u32 {
         u32::from(self.0[1])
     }
 
     /// The peer to which the message went or from which it came; none for an
     /// own entry.
+    #[must_use]
     pub fn peer(&self) -> Option<u32> {
         match self.kind() {
             Kind::Own => None,
@@ -103,22 +111,28 @@ impl Record {
     }
 
     /// The station's phase at the event.
+    #[must_use]
     pub fn phase(&self) -> u32 {
         self.long(4)
     }
 
     /// The register number; of a receipt, the message's.
+    #[must_use]
     pub fn register(&self) -> u32 {
         self.long(8)
     }
 
     /// The timestamp: a count for each station.
+    #[must_use]
     pub fn counts(&self) -> [u16; MAX_STATIONS] {
         std::array::from_fn(|k| u16::from_le_bytes([self.0[16 + 2 * k], self.0[17 + 2 * k]]))
     }
 
-    /// The order of this event and another: [`Refusal::DifferentPhases`] where
-    /// they are of different phases.
+    /// The order of this event and another of its phase.
+    ///
+    /// # Errors
+    ///
+    /// [`Refusal::DifferentPhases`] where they are of different phases.
     ///
     /// ```
     /// use melontime::{Header, Network, Refusal, Verdict};
@@ -170,6 +184,9 @@ impl AsRef<[u8]> for Record {
 }
 
 /// The order of two events by the bytes of their records.
+///
+/// # Errors
+///
 /// [`Refusal::Malformed`] for bytes that are no record, then
 /// [`Refusal::DifferentPhases`].
 ///

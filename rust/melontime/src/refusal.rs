@@ -66,11 +66,13 @@ impl Refusal {
     ];
 
     /// The refusal's number.
+    #[must_use]
     pub fn number(self) -> u8 {
         self as u8
     }
 
     /// The refusal with a number; none where no refusal has it.
+    #[must_use]
     pub fn from_number(number: u64) -> Option<Refusal> {
         let mut all = Refusal::ALL.iter().copied();
         all.find(|refusal| u64::from(refusal.number()) == number)
