@@ -1,17 +1,26 @@
 -- An input that comes in parts: a line more, and the end. Assumes nothing.
-use Prim.Native.Nat.{ℕ}
-use mathlib.Core.Path.{_≡_, refl, sym, _∙_, ap}
+use Prim.Native.Nat.{ℕ, _≤_}
+use mathlib.Core.Path.{_≡_, refl, sym, _∙_, ap, subst}
 use mathlib.Core.Bool.{Bool, true, false, true≢false}
-use mathlib.Core.List.{List, [], _∷_, _++_, append-assoc}
+use mathlib.Core.List.{List, [], _∷_, _++_, append-assoc, append-nil}
 use lib.Dec.{eqb}
+use native.Mathlib.Omega.{arith}
+use lib.ListN.{length, take, drop, drop-of-length-le}
+use lib.Seq.{take-at}
+use Rattle.text.specs.Written.{Written}
+use Rattle.lines.specs.Kept.{Kept}
+use Rattle.lines.proofs.KeptLaws.{kept-none}
+use Rattle.text.proofs.WrittenLaws.{written-none, written-more}
 use Rattle.command.specs.Parse.{parseOf}
 use Rattle.command.specs.declared.Command.{Command}
 use Rattle.lines.specs.Lines.{Split, unended, ended, splitFrom, andThen, allOf, ends, before, behind}
 use Rattle.lines.proofs.LineLaws.{split-append, split-first}
+use Rattle.settings.specs.declared.Run.{Run}
 use Rattle.settings.specs.declared.Stage.the-variants.{Ended}
 use Rattle.driver.specs.declared.Told.{Told}
 use Rattle.driver.specs.Run.{Standing, Telling, standing, obeyed, obeyedIn, closed, closedIn, Tells}
-use Rattle.session.specs.Turnover.{transcript, beginning, turnover, turnoverFrom}
+use Rattle.session.specs.declared.Taken.{Taken}
+use Rattle.session.specs.Turnover.{transcript, beginning, turnover, turnoverFrom, Goes, Passes, Prints, Takes}
 
 -- the whole input, before any of it has come
 pub whole-input : (input : List ℕ) → turnoverFrom beginning [] input ≡ turnover input
@@ -57,10 +66,51 @@ pub line-taken : (s y : Standing) (c : Command) → y ≡ obeyed s c .after → 
     → turnoverFrom s t (d ++ more) ≡ obeyed s c .text ++ turnoverFrom y [] (rest ++ more)
 line-taken s y c e t d rest more h f q = rw (e, f, q) (whole-line s t d more h)
 
--- two parts of an input, one after the other, are one part
-pub chain : (s y z : Standing) (t u v a b p q : List ℕ) → ((more : List ℕ) → turnoverFrom s t (a ++ more) ≡ p ++ turnoverFrom y u more)
-    → ((more : List ℕ) → turnoverFrom y u (b ++ more) ≡ q ++ turnoverFrom z v more) → (more : List ℕ) → turnoverFrom s t ((a ++ b) ++ more) ≡ (p ++ q) ++ turnoverFrom z v more
-chain s y z t u v a b p q f g more = rw (append-assoc a b more, f (b ++ more), g more, append-assoc p q (turnoverFrom z v more))
+-- ---- parts of an input, one after the other
+-- nothing was taken
+pub goes-none : (s : Standing) (line : List ℕ) (have : ℕ) (input : List ℕ) → Goes s line have input [] s line have input
+goes-none s line have input = record { whole = λ t k. (t, k, λ more. refl) }
+
+-- more of an input was taken
+pub goes-more : {s y z : Standing} {l m n a b c p q : List ℕ} {have after last : ℕ} → Goes s l have a p y m after b → Goes y m after b q z n last c
+    → Goes s l have a (p ++ q) z n last c
+goes-more {p = p} {q} f g =
+    record {
+      whole = λ t k.
+          let x = f .whole t k in
+          let y = g .whole (x .0) (x .1) in
+          (y .0, y .1, λ more. x .2 more ∙ rw (y .2 more) (sym (append-assoc p q _)));
+    }
+
+-- more of an input has come
+pub goes-on : {s y : Standing} {l m a p : List ℕ} {have after : ℕ} → Goes s l have a p y m after [] → (b : List ℕ) → Goes s l have (a ++ b) p y m after b
+goes-on f b = record { whole = λ t k. let x = f .whole t k in (x .0, x .1, λ more. rw append-assoc (x .2 (b ++ more))) }
+
+-- two inputs, each taken whole, one after the other
+pub passes-more : {s y z : Standing} {l m n a b : List ℕ} {have after last : ℕ} → Passes s l have a y m after → Passes y m after b z n last → Passes s l have (a ++ b) z n last
+passes-more {b = b} f g = (f .0 ++ g .0, goes-more (goes-on (f .1) b) (g .1))
+
+-- all bytes were taken
+pub goes-whole : {s y : Standing} {l m input p : List ℕ} {have after : ℕ} (bytes : List ℕ) (n : ℕ) → Goes s l have input p y m after (drop n bytes) → length bytes ≤ n
+    → Passes s l have input y m after
+goes-whole {s} {y} {l} {m} {input} {p} {have} {after} bytes n g h = (p, subst (λ (rest : List ℕ). Goes s l have input p y m after rest) (drop-of-length-le bytes h) g)
+
+-- no bytes were taken, and more
+pub takes-none : (run : Run) (line : List ℕ) (have : ℕ) (bytes : List ℕ) (at : ℕ) (block area out : List ℕ) (end : ℕ) → have ≤ 32 → at ≤ length bytes
+    → Takes (standing run block area) line have bytes at out end (record { have = have; next = at; end = end; run = run }) line block area out
+takes-none run line have bytes at block area out end h g =
+    record { text = []; printed = written-none out end; fits = h; inside = g; goes = goes-none _ line have _ }
+
+pub takes-more : {s : Standing} {line new last bytes old mid out b a b' a' : List ℕ} {have at end : ℕ} {p q : Taken} → Takes s line have bytes at old end p new b a mid
+    → Takes (standing (p .run) b a) new (p .have) bytes (p .next) mid (p .end) q last b' a' out → p .end ≤ length old → Takes s line have bytes at old end q last b' a' out
+takes-more f g h =
+    record {
+      text = f .text ++ g .text;
+      printed = written-more (f .printed) (g .printed) h;
+      fits = g .fits;
+      inside = g .inside;
+      goes = goes-more (f .goes) (g .goes);
+    }
 
 -- ---- the end of input
 pub end-none : (s : Standing) → turnoverFrom s [] [] ≡ closed s .text
@@ -71,6 +121,19 @@ pub end-line : (s y : Standing) (c : Command) → y ≡ obeyed s c .after → (t
 unfolding turnoverFrom splitFrom
 end-line s y c e [] n q = absurd (n refl)
 end-line s y c e (x ∷ t) n q = rw (e, q)
+
+written-take : (old text out : List ℕ) (end : ℕ) → Written old 0 text end out → take end out ≡ text
+written-take old text out end w = let n : length text ≡ end = omega (arith, w .next) in rw (w .is) (take-at text _ end n)
+
+-- a run that began with nothing set, took the input whole and printed what was left
+pub all-printed : {y : Standing} {l m input old out : List ℕ} {have end : ℕ} → Passes beginning l 0 input y m have → ((t : List ℕ) → Kept m have t → Written old 0 (turnoverFrom y t []) end out) → Prints out end
+all-printed {y} {l} {m} {input} {old} {out} {have} {end} p w =
+    let x = p .1 .whole [] (kept-none l) in
+    record {
+      input = input;
+      before = p .0;
+      all = sym (whole-input input) ∙ rw append-nil at (x .2 []) ∙ ap (λ (z : List ℕ). p .0 ++ z) (sym (written-take old _ out end (w (x .0) (x .1))));
+    }
 
 -- ---- behind a refused setup nothing is printed
 silence : (s : Standing) → s .run .stage ≡ Ended → (ls : List (List ℕ)) → transcript s ls ≡ []

@@ -8,7 +8,7 @@ ghost use Rattle.answer.specs.Answer.{longest};
 ghost use Rattle.text.specs.Written.{Written};
 ghost use Rattle.lines.specs.Kept.{Kept};
 ghost use Rattle.driver.specs.Run.{standing, Ready};
-ghost use Rattle.session.specs.Turnover.{turnoverFrom, Takes};
+ghost use Rattle.session.specs.Turnover.{turnoverFrom, Takes, OneLine, AllThatFits};
 
 // How much of a line is kept, the place behind what was read, the place behind what was printed, and the run.
 pub struct Taken {
@@ -17,6 +17,9 @@ pub struct Taken {
     pub end: usize,
     pub run: Run,
 }
+
+// The longest line that is printed.
+const LONGEST: usize = 90;
 
 // Takes the bytes from `at` up to the first line feed, or all where there is none, and obeys the line that ends there.
 pub fn take(
@@ -32,6 +35,7 @@ pub fn take(
 ) -> Taken
     requires { ⌜ (have ≤ 32) × (length (now line) ≡ 32) × (at ≤ length (now bytes)) × (end + longest ≤ length (now out)) × (length (now block) ≡ 512) × Ready (run .stage) (now area) ⌝ }
     ensures { λ r. ⌜ Takes (standing run (now (block .entry)) (now (area .entry))) (now (line .entry)) have (now (bytes .entry)) at (now (out .entry)) end r (now (line .exit)) (now (block .exit)) (now (area .exit)) (now (out .exit)) ⌝ }
+    ensures { λ r. ⌜ OneLine (now (bytes .entry)) at end r ⌝ }
     ensures { λ r. ⌜ Ready (r .run .stage) (now (area .exit)) ⌝ }
 {
     let f = lines::fill(line, have, bytes, at);
@@ -54,6 +58,39 @@ pub fn take(
         end: told.end,
         run: after,
     }
+}
+
+// Takes the bytes from `at` on, line by line, until they are used up or the buffer may not have room for another answer.
+pub fn take_lines(
+    line: &mut [u8],
+    have: usize,
+    bytes: &[u8],
+    at: usize,
+    block: &mut [u8],
+    area: &mut [u8],
+    out: &mut [u8],
+    end: usize,
+    run: Run,
+) -> Taken
+    requires { ⌜ (have ≤ 32) × (length (now line) ≡ 32) × (at ≤ length (now bytes)) × (end ≤ length (now out)) × (length (now block) ≡ 512) × Ready (run .stage) (now area) ⌝ }
+    ensures { λ r. ⌜ Takes (standing run (now (block .entry)) (now (area .entry))) (now (line .entry)) have (now (bytes .entry)) at (now (out .entry)) end r (now (line .exit)) (now (block .exit)) (now (area .exit)) (now (out .exit)) ⌝ }
+    ensures { λ r. ⌜ AllThatFits (now (bytes .entry)) at (now (out .entry)) end r ⌝ }
+    ensures { λ r. ⌜ Ready (r .run .stage) (now (area .exit)) ⌝ }
+{
+    let mut t = Taken {
+        have,
+        next: at,
+        end,
+        run,
+    };
+    while t.next < bytes.len() {
+        if out.len() - t.end < LONGEST {
+            break;
+        }
+        let before = t.run;
+        t = take(line, t.have, bytes, t.next, block, area, out, t.end, before);
+    }
+    t
 }
 
 // The input has ended: the last line, where it has no line feed, and setup where no step came.

@@ -24,14 +24,14 @@ settle-requires : tie.Need-settle-requires Inv-loop μ-loop
 settle-requires c κs = search needs
 
 loop-less : tie.Need-loop-less Inv-loop μ-loop
-loop-less c = let f = c .before .before .before .before .before .before .before .before .before .before .take .ensures .0 in omega (arith, f .inside, f .on (c .before .before .before .before .before .before .before .before .before .before .before .before .before .before .before .before .before .loop-test .taken))
+loop-less c = let f = c .before .before .before .before .before .before .before .before .before .before .take .ensures in omega (arith, f .0 .inside, f .1 .0 .on (c .before .before .before .before .before .before .before .before .before .before .before .before .before .before .before .before .before .loop-test .taken))
 
 loop-again : tie.Need-loop-again Inv-loop μ-loop
 loop-again c =
     let i = c .before .before .before .before .before .before .before .before .before .before .before .before .before .before .before .before .before .before .loop .inv in
     let f = c .before .before .before .before .before .before .before .before .before .before .take .ensures in
     let q = c .settle .ensures in
-    (rw (q .0) (f .0 .fits), q .1, omega (arith, i .2), omega (arith, i .3), omega (arith, i .4), omega (arith, i .5), rw (q .2) (f .1))
+    (rw (q .0) (f .0 .fits), q .1, omega (arith, i .2), omega (arith, i .3), omega (arith, i .4), omega (arith, i .5), rw (q .2) (f .1 .1))
 
 same-length : tie.Need-same-length Inv-loop μ-loop
 same-length c = search needs

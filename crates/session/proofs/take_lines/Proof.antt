@@ -1,0 +1,100 @@
+use Prim.Native.Nat.{_+_, _-_, _≤_}
+use mathlib.Core.Path.{_≡_, refl}
+use native.Mathlib.Omega.{arith}
+use lib.ListN.{length}
+use denote.Ref.{now}
+use borrow.Author.Needs.{needs}
+use Rattle.driver.specs.Run.{standing, Ready}
+use Rattle.session.specs.Turnover.{Takes}
+use Rattle.session.proofs.Laws.{takes-none, takes-more}
+use Rattle.session.proofs.take_lines.Statement.{statement}
+use Rattle.session.proofs.take_lines.Tie as tie
+
+abbrev Inv-loop : tie.InvT-loop
+Inv-loop line₀ have bytes at block₀ area₀ out₀ end t₀ line block area out t =
+    (length line ≡ 32) × (length block ≡ 512) × (length area ≡ length area₀) × (length out ≡ length out₀) × (at ≤ t .next) × (t .next ≡ at → t .end ≡ end) × (t .end ≤ length out₀)
+    × Ready (t .run .stage) area × Takes (standing (t₀ .run) block₀ area₀) line₀ have bytes at out₀ end t line block area out
+
+abbrev μ-loop : tie.MeasureT-loop
+μ-loop line₀ have bytes at block₀ area₀ out₀ end t₀ line block area out t = length bytes - t .next
+
+loop-holds : tie.Need-loop-holds Inv-loop μ-loop
+loop-holds c =
+    let g = c .before .before .before .before .before .args in
+    let p = c .before .before .before .before .before .pre in
+    (p .1, p .4, refl, refl, omega arith, λ e. refl, p .3, p .5, takes-none (g .run) _ (g .have) _ (g .at) _ _ _ (g .end) (p .0) (p .2))
+
+sub-if2 : tie.Need-sub-if2 Inv-loop μ-loop
+sub-if2 c = search needs
+
+take-requires : tie.Need-take-requires Inv-loop μ-loop
+take-requires c κs = let i = c .before .before .before .before .before .before .before .before .before .loop .inv in let f = i .8 in (f .fits, i .0, f .inside, omega arith, i .1, i .7)
+
+loop-less : tie.Need-loop-less Inv-loop μ-loop
+loop-less c = let f = c .before .before .before .before .before .before .before .before .take .ensures in omega (arith, f .0 .inside, f .1 .0 .on (c .before .before .before .before .before .before .before .before .before .before .before .before .before .before .before .before .if1 .taken))
+
+loop-again : tie.Need-loop-again Inv-loop μ-loop
+loop-again c =
+    let i = c .before .before .before .before .before .before .before .before .before .before .before .before .before .before .before .before .before .before .loop .inv in
+    let f = c .before .before .before .before .before .before .before .before .take .ensures in
+    let n = f .1 .0 .on (c .before .before .before .before .before .before .before .before .before .before .before .before .before .before .before .before .if1 .taken) in
+    let m = f .1 .0 .short in
+    (omega (arith, i .0), omega (arith, i .1), omega (arith, i .2), omega (arith, i .3), omega (arith, i .4), λ e. absurd (omega (arith, i .4)), omega (arith, i .3, i .6), f .1 .1, takes-more (i .8) (f .0) (i .6))
+
+same-length : tie.Need-same-length Inv-loop μ-loop
+same-length c = search needs
+
+same-length-2 : tie.Need-same-length-2 Inv-loop μ-loop
+same-length-2 c = search needs
+
+same-length-3 : tie.Need-same-length-3 Inv-loop μ-loop
+same-length-3 c = search needs
+
+same-length-4 : tie.Need-same-length-4 Inv-loop μ-loop
+same-length-4 c = search needs
+
+returns : tie.Need-returns Inv-loop μ-loop
+returns c =
+    let i = c .before .before .loop .inv in
+    (i .8, (record { room = i .6; on = λ h r. omega arith; left = λ h. absurd (omega arith) }, i .7))
+
+same-length-5 : tie.Need-same-length-5 Inv-loop μ-loop
+same-length-5 c = search needs
+
+same-length-6 : tie.Need-same-length-6 Inv-loop μ-loop
+same-length-6 c = search needs
+
+same-length-7 : tie.Need-same-length-7 Inv-loop μ-loop
+same-length-7 c = search needs
+
+same-length-8 : tie.Need-same-length-8 Inv-loop μ-loop
+same-length-8 c = search needs
+
+returns-2 : tie.Need-returns-2 Inv-loop μ-loop
+returns-2 c =
+    let w = c .before .before .before .before .loop in
+    let i = w .inv in
+    let z : w .t .next ≡ c .before .before .before .before .before .before .before .before .before .before .args .at → c .before .before .before .before .before .before .before .before .before .before .args .end + 90 ≤ length (now (c .before .before .before .before .before .before .before .before .before .before .args .out)) → ⊥ = λ e r. omega (arith, i .3, i .5 e) in
+    (i .8, (record { room = i .6; on = λ h r. let n : w .t .next ≡ c .before .before .before .before .before .before .before .before .before .before .args .at → ⊥ = λ e. z e r in omega (arith, i .4, n); left = λ h. omega (arith, i .3) }, i .7))
+
+pub take-lines-spec : {M : Type 1} → statement M
+take-lines-spec =
+    tie.close
+    (tie.spec
+    Inv-loop
+    μ-loop
+    loop-holds
+    sub-if2
+    take-requires
+    loop-less
+    loop-again
+    same-length
+    same-length-2
+    same-length-3
+    same-length-4
+    returns
+    same-length-5
+    same-length-6
+    same-length-7
+    same-length-8
+    returns-2)
