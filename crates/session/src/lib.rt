@@ -22,7 +22,7 @@ pub struct Taken {
 const LONGEST: usize = 90;
 
 // Takes the bytes from `at` up to the first line feed, or all where there is none, and obeys the line that ends there.
-pub fn take(
+fn take(
     line: &mut [u8],
     have: usize,
     bytes: &[u8],

@@ -1,144 +1,214 @@
 // turnover: runs the network that standard input describes and prints what each step answers. What is printed is decided in session; here
 // bytes are read and written.
+use libc::EAGAIN;
+use libc::EINTR;
 use libc::STDIN_FILENO;
 use libc::STDOUT_FILENO;
 use session::Taken;
 use settings::Run;
 ghost use mathlib.Core.Path.{_≡_};
-ghost use Prim.Native.Nat.{_≤_};
+ghost use mathlib.Core.Bool.{false};
+ghost use mathlib.Core.List.{List};
+ghost use Prim.Native.Nat.{ℕ, _≤_};
 ghost use lib.ListN.{length};
-ghost use Rattle.driver.specs.Run.{Ready};
+ghost use Rattle.codec.specs.Every.{blank as Blank};
+ghost use Rattle.driver.specs.Run.{standing, Ready};
+ghost use Rattle.session.specs.Turnover.{Passes, Prints};
 
-// Between lines: how much of a line is kept, how much of the output is not written yet, whether more is read, and the run.
+// Between reads: how much of a line is kept, whether more is read, whether a read or a write has failed, and the run.
 struct Reading {
     have: usize,
-    end: usize,
     open: bool,
+    failed: bool,
     run: Run,
 }
 
-// Up to here there is room for two lines more.
-const ROOM: usize = 65356;
-
-fn flush(out: &[u8], end: usize) {
-    if end <= out.len() {
-        io::write_all(STDOUT_FILENO, &out[..end]);
-    }
+// The rest of what is printed, and whether all before it was.
+struct Last {
+    end: usize,
+    failed: bool,
 }
 
-// Makes room for the next lines.
-fn roomy(out: &[u8], end: usize) -> usize
-    ensures { λ r. ⌜ r ≤ 65356 ⌝ }
-{
-    if end <= ROOM {
-        return end;
+// Whether a call that failed is made again: a signal came, or the file was not ready.
+fn again() -> bool {
+    let error = os::errno();
+    if error == EINTR {
+        return true;
     }
-    flush(out, end);
-    0
+    if error == EAGAIN {
+        libc::sched_yield();
+        return true;
+    }
+    false
 }
 
-// What a part of a line, or a whole one, leaves. Behind a refused setup no more is read: nothing more is printed.
-fn settle(out: &[u8], t: Taken) -> Reading
-    ensures { λ r. ⌜ (r .have ≡ t .have) × (r .end ≤ 65356) × (r .run ≡ t .run) ⌝ }
+// One read. Nothing says that a file is ever ready, so the calls are counted down from a number that no run uses up.
+fn get(bytes: &mut [u8]) -> isize {
+    let mut calls = u64::MAX;
+    while calls > 0 {
+        let got = libc::read(STDIN_FILENO, bytes);
+        if got >= 0 {
+            return got;
+        }
+        if !again() {
+            return got;
+        }
+        calls -= 1;
+    }
+    -1
+}
+
+// Whether there is a next write: this one took bytes, or is made again.
+fn moves(got: isize) -> bool {
+    if got < 0 {
+        return again();
+    }
+    got > 0
+}
+
+// Writes all, each call from where the last one stopped, and answers whether it could.
+fn put(bytes: &[u8]) -> bool {
+    let mut calls = u64::MAX;
+    let mut done = 0;
+    while done < bytes.len() {
+        if calls == 0 {
+            return false;
+        }
+        calls -= 1;
+        let rest = &bytes[done..];
+        let got = libc::write(STDOUT_FILENO, rest);
+        if !moves(got) {
+            return false;
+        }
+        done += io::count(got, rest);
+    }
+    true
+}
+
+// What the bytes of a read leave. Behind a refused setup no more is read: nothing more is printed.
+fn settled(t: Taken, failed: bool) -> Reading
+    ensures { λ r. ⌜ (r .have ≡ t .have) × (r .failed ≡ failed) × (r .run ≡ t .run) ⌝ }
 {
     let run = t.run;
     Reading {
         have: t.have,
-        end: roomy(out, t.end),
-        open: !driver::ended(run),
+        open: !failed & !driver::ended(run),
+        failed,
         run,
     }
 }
 
-// The bytes of one read.
+// The bytes of one read: as many as the buffer has room for the answers of, then those answers written, and so on.
 fn feed(
     bytes: &[u8],
     line: &mut [u8],
     block: &mut [u8],
     area: &mut [u8],
     out: &mut [u8],
-    s: Reading,
+    have: usize,
+    run: Run,
 ) -> Reading
-    requires { ⌜ (s .have ≤ 32) × (s .end ≤ 65356) × (length (now line) ≡ 32) × (length (now block) ≡ 512) × (length (now out) ≡ 65536) × Ready (s .run .stage) (now area) ⌝ }
-    ensures { λ r. ⌜ (r .have ≤ 32) × (r .end ≤ 65356) × Ready (r .run .stage) (now (area .exit)) ⌝ }
+    requires { ⌜ (have ≤ 32) × (length (now line) ≡ 32) × (length (now block) ≡ 512) × (length (now out) ≡ 65536) × Ready (run .stage) (now area) ⌝ }
+    ensures { λ r. ⌜ (r .failed ≡ false → Passes (standing run (now (block .entry)) (now (area .entry))) (now (line .entry)) have (now (bytes .entry)) (standing (r .run) (now (block .exit)) (now (area .exit))) (now (line .exit)) (r .have)) ⌝ }
+    ensures { λ r. ⌜ (r .have ≤ 32) × Ready (r .run .stage) (now (area .exit)) ⌝ }
 {
-    let mut t = s;
-    let mut at = 0;
-    while at < bytes.len() {
-        let open = t.open;
-        if !open {
-            break;
+    let mut t = Taken {
+        have,
+        next: 0,
+        end: 0,
+        run,
+    };
+    while t.next < bytes.len() {
+        let before = t.run;
+        t = session::take_lines(line, t.have, bytes, t.next, block, area, out, 0, before);
+        let end = t.end;
+        if !put(&out[..end]) {
+            return settled(t, true);
         }
-        let run = t.run;
-        let r = session::take(line, t.have, bytes, at, block, area, out, t.end, run);
-        at = r.next;
-        t = settle(&out[..], r);
     }
-    t
+    settled(t, false)
 }
 
-// One read, before which all that was printed is written: whoever types a line sees its answer.
-fn turn(line: &mut [u8], block: &mut [u8], area: &mut [u8], out: &mut [u8], s: Reading) -> Reading
-    requires { ⌜ (s .have ≤ 32) × (s .end ≤ 65356) × (length (now line) ≡ 32) × (length (now block) ≡ 512) × (length (now out) ≡ 65536) × Ready (s .run .stage) (now area) ⌝ }
-    ensures { λ r. ⌜ (r .have ≤ 32) × (r .end ≤ 65356) × Ready (r .run .stage) (now (area .exit)) ⌝ }
+// One read, and what it brings.
+fn turn(
+    bytes: &mut [u8],
+    line: &mut [u8],
+    block: &mut [u8],
+    area: &mut [u8],
+    out: &mut [u8],
+    s: Reading,
+) -> Reading
+    requires { ⌜ (s .have ≤ 32) × (length (now line) ≡ 32) × (length (now block) ≡ 512) × (length (now out) ≡ 65536) × Ready (s .run .stage) (now area) ⌝ }
+    ensures { λ r. ⌜ (r .failed ≡ false → (input : List ℕ) × Passes (standing (s .run) (now (block .entry)) (now (area .entry))) (now (line .entry)) (s .have) input (standing (r .run) (now (block .exit)) (now (area .exit))) (now (line .exit)) (r .have)) ⌝ }
+    ensures { λ r. ⌜ (r .have ≤ 32) × Ready (r .run .stage) (now (area .exit)) ⌝ }
 {
-    flush(&out[..], s.end);
     let have = s.have;
     let run = s.run;
-    let mut buf = io::large_buffer();
-    let got = libc::read(STDIN_FILENO, &mut buf);
+    let got = get(bytes);
     if got <= 0 {
         return Reading {
             have,
-            end: 0,
             open: false,
+            failed: got < 0,
             run,
         };
     }
-    let n = io::count(got, &buf);
-    let t = Reading {
-        have,
-        end: 0,
-        open: true,
-        run,
-    };
-    feed(&buf[..n], line, block, area, out, t)
+    let n = io::count(got, &bytes[..]);
+    feed(&bytes[..n], line, block, area, out, have, run)
 }
 
-// Nothing says that the input ends, so the reads are counted down from a number that no run uses up.
-fn run(line: &mut [u8], block: &mut [u8], area: &mut [u8], out: &mut [u8])
-    requires { ⌜ (length (now line) ≡ 32) × (length (now block) ≡ 512) × (length (now out) ≡ 65536) ⌝ }
+// Nothing says that the input ends, so the reads are counted down as well.
+fn run(bytes: &mut [u8], line: &mut [u8], block: &mut [u8], area: &mut [u8], out: &mut [u8]) -> Last
+    requires { ⌜ (length (now line) ≡ 32) × (now block ≡ Blank 512) × (now area ≡ Blank 65536) × (length (now out) ≡ 65536) ⌝ }
+    ensures { λ r. ⌜ (r .failed ≡ false → Prints (now (out .exit)) (r .end)) ⌝ }
+    ensures { λ r. ⌜ r .end ≤ 65536 ⌝ }
 {
     let mut s = Reading {
         have: 0,
-        end: 0,
         open: true,
+        failed: false,
         run: settings::opened(),
     };
     let mut turns = u64::MAX;
     while turns > 0 {
+        turns -= 1;
+        s = turn(bytes, line, block, area, out, s);
+        let failed = s.failed;
+        if failed {
+            return Last { end: 0, failed };
+        }
         let open = s.open;
         if !open {
-            break;
+            let last = s.run;
+            let end = session::finish(&line[..], s.have, block, area, out, 0, last);
+            return Last { end, failed };
         }
-        s = turn(line, block, area, out, s);
-        turns -= 1;
     }
-    let last = s.run;
-    let end = session::finish(&line[..], s.have, block, area, out, s.end, last);
-    flush(&out[..], end);
+    Last {
+        end: 0,
+        failed: true,
+    }
 }
 
-fn blank() -> [u8; 512]
-    ensures { λ r. ⌜ length r ≡ 512 ⌝ }
+fn block() -> [u8; 512]
+    ensures { λ r. ⌜ (length r ≡ 512) × (r ≡ Blank 512) ⌝ }
 {
     [0u8; 512]
 }
 
+fn area() -> [u8; 65536]
+    ensures { λ r. ⌜ (65536 ≡ length r) × (r ≡ Blank 65536) ⌝ }
+{
+    [0u8; 65536]
+}
+
 fn main() {
+    let mut bytes = io::large_buffer();
     let mut line = [0u8; 32];
-    let mut block = blank();
-    let mut area = io::large_buffer();
+    let mut block = block();
+    let mut area = area();
     let mut out = io::large_buffer();
-    run(&mut line, &mut block, &mut area, &mut out);
+    let last = run(&mut bytes, &mut line, &mut block, &mut area, &mut out);
+    let end = last.end;
+    put(&out[..end]);
 }

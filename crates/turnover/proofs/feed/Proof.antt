@@ -1,52 +1,77 @@
-use Prim.Native.Nat.{_-_, _≤_}
-use mathlib.Core.Path.{_≡_}
+use Prim.Native.Nat.{ℕ, _-_, _≤_}
+use mathlib.Core.Path.{_≡_, refl, sym, _∙_}
+use mathlib.Core.Bool.{true≢false}
+use mathlib.Core.List.{List, []}
 use native.Mathlib.Omega.{arith}
-use lib.ListN.{length}
+use denote.Ref.{now}
+use lib.ListN.{length, drop, length-take}
 use borrow.Author.Needs.{needs}
-use Rattle.driver.specs.Run.{Ready}
+use Rattle.driver.specs.Run.{standing, Ready}
+use Rattle.session.specs.Turnover.{Goes}
+use Rattle.session.proofs.Laws.{goes-none, goes-more, goes-whole}
 use Rattle.turnover.proofs.feed.Statement.{statement}
 use Rattle.turnover.proofs.feed.Tie as tie
 
 abbrev Inv-loop : tie.InvT-loop
-Inv-loop bytes line₀ block₀ area₀ out₀ t₀ at₀ line block area out t at =
-    (t .have ≤ 32) × (t .end ≤ 65356) × (length line ≡ 32) × (length block ≡ 512) × (length area ≡ length area₀) × (length out ≡ 65536) × Ready (t .run .stage) area
+Inv-loop bytes line₀ block₀ area₀ out₀ have t₀ line block area out t =
+    (length line ≡ 32) × (length block ≡ 512) × (length area ≡ length area₀) × (length out ≡ 65536) × (t .next ≤ length bytes) × (t .have ≤ 32) × Ready (t .run .stage) area
+    × ((text : List ℕ) × Goes (standing (t₀ .run) block₀ area₀) line₀ have bytes text (standing (t .run) block area) line (t .have) (drop (t .next) bytes))
 
 abbrev μ-loop : tie.MeasureT-loop
-μ-loop bytes line₀ block₀ area₀ out₀ t₀ at₀ line block area out t at = length bytes - at
+μ-loop bytes line₀ block₀ area₀ out₀ have t₀ line block area out t = length bytes - t .next
 
 loop-holds : tie.Need-loop-holds Inv-loop μ-loop
-loop-holds c = search needs
+loop-holds c =
+    let p = c .before .before .before .before .before .pre in
+    (p .1, p .2, refl, p .3, omega arith, p .0, p .4, ([], goes-none _ _ _ _))
 
-take-requires : tie.Need-take-requires Inv-loop μ-loop
-take-requires c κs = let i = c .before .before .before .before .before .before .before .loop .inv in (i .0, i .2, omega arith, omega arith, i .3, i .6)
+take-lines-requires : tie.Need-take-lines-requires Inv-loop μ-loop
+take-lines-requires c κs = let i = c .before .before .before .before .before .before .before .loop .inv in (i .5, i .0, i .4, omega arith, i .1, i .6)
 
-settle-requires : tie.Need-settle-requires Inv-loop μ-loop
-settle-requires c κs = search needs
+slice-reshare-prefix-put : tie.Need-slice-reshare-prefix-put Inv-loop μ-loop
+slice-reshare-prefix-put c = search needs
+
+slice-aggregate-put : tie.Need-slice-aggregate-put Inv-loop μ-loop
+slice-aggregate-put c = let r = c .before .before .before .before .before .before .before .before .before .take-lines .ensures .1 .0 .room in simp length-take (omega (arith, c .before .before .before .before .before .before .before .before .before .before .before .before .before .before .before .before .before .loop .inv .3))
+
+put-requires : tie.Need-put-requires Inv-loop μ-loop
+put-requires c κs = search needs
+
+settled-requires : tie.Need-settled-requires Inv-loop μ-loop
+settled-requires c κs = search needs
+
+same-length : tie.Need-same-length Inv-loop μ-loop
+same-length c = omega (arith, c .before .before .before .before .before .before .before .before .before .before .before .before .before .before .before .before .before .before .before .before .loop .inv .0, c .before .before .before .before .before .before .before .before .before .before .before .before .before .before .before .before .before .before .before .before .before .before .before .before .before .before .pre .1)
+
+same-length-2 : tie.Need-same-length-2 Inv-loop μ-loop
+same-length-2 c = omega (arith, c .before .before .before .before .before .before .before .before .before .before .before .before .before .before .before .before .before .before .before .before .loop .inv .1, c .before .before .before .before .before .before .before .before .before .before .before .before .before .before .before .before .before .before .before .before .before .before .before .before .before .before .pre .2)
+
+same-length-3 : tie.Need-same-length-3 Inv-loop μ-loop
+same-length-3 c = omega (arith, c .before .before .before .before .before .before .before .before .before .before .before .before .before .before .before .before .before .before .before .before .loop .inv .2)
+
+same-length-4 : tie.Need-same-length-4 Inv-loop μ-loop
+same-length-4 c = omega (arith, c .before .before .before .before .before .before .before .before .before .before .before .before .before .before .before .before .before .before .before .before .loop .inv .3, c .before .before .before .before .before .before .before .before .before .before .before .before .before .before .before .before .before .before .before .before .before .before .before .before .before .before .pre .3)
+
+returns : tie.Need-returns Inv-loop μ-loop
+returns c =
+    let q = c .settled .ensures in
+    let f = c .before .before .before .before .before .before .before .before .before .before .before .before .take-lines .ensures in
+    (λ e. absurd (true≢false (sym (q .1) ∙ e)), (rw (q .0) (f .0 .fits), rw (q .2) (f .1 .1)))
 
 loop-less : tie.Need-loop-less Inv-loop μ-loop
-loop-less c = let f = c .before .before .before .before .before .before .before .before .before .before .take .ensures in omega (arith, f .0 .inside, f .1 .0 .on (c .before .before .before .before .before .before .before .before .before .before .before .before .before .before .before .before .before .loop-test .taken))
+loop-less c =
+    let i = c .before .before .before .before .before .before .before .before .before .before .before .before .before .before .before .before .before .before .before .loop .inv in
+    let f = c .before .before .before .before .before .before .before .before .before .before .before .take-lines .ensures in
+    omega (arith, f .0 .inside, f .1 .0 .on (c .before .before .before .before .before .before .before .before .before .before .before .before .before .before .before .before .before .if1 .taken) (omega (arith, i .3)))
 
 loop-again : tie.Need-loop-again Inv-loop μ-loop
 loop-again c =
-    let i = c .before .before .before .before .before .before .before .before .before .before .before .before .before .before .before .before .before .before .loop .inv in
-    let f = c .before .before .before .before .before .before .before .before .before .before .take .ensures in
-    let q = c .settle .ensures in
-    (rw (q .0) (f .0 .fits), q .1, omega (arith, i .2), omega (arith, i .3), omega (arith, i .4), omega (arith, i .5), rw (q .2) (f .1 .1))
+    let i = c .before .before .before .before .before .before .before .before .before .before .before .before .before .before .before .before .before .before .before .loop .inv in
+    let f = c .before .before .before .before .before .before .before .before .before .before .before .take-lines .ensures in
+    (omega (arith, i .0), omega (arith, i .1), omega (arith, i .2), omega (arith, i .3), f .0 .inside, f .0 .fits, f .1 .1, (_, goes-more (i .7 .1) (f .0 .goes)))
 
-same-length : tie.Need-same-length Inv-loop μ-loop
-same-length c = search needs
-
-same-length-2 : tie.Need-same-length-2 Inv-loop μ-loop
-same-length-2 c = search needs
-
-same-length-3 : tie.Need-same-length-3 Inv-loop μ-loop
-same-length-3 c = search needs
-
-same-length-4 : tie.Need-same-length-4 Inv-loop μ-loop
-same-length-4 c = search needs
-
-returns : tie.Need-returns Inv-loop μ-loop
-returns c = search needs
+settled-requires-2 : tie.Need-settled-requires-2 Inv-loop μ-loop
+settled-requires-2 c κs = search needs
 
 same-length-5 : tie.Need-same-length-5 Inv-loop μ-loop
 same-length-5 c = search needs
@@ -61,7 +86,10 @@ same-length-8 : tie.Need-same-length-8 Inv-loop μ-loop
 same-length-8 c = search needs
 
 returns-2 : tie.Need-returns-2 Inv-loop μ-loop
-returns-2 c = search needs
+returns-2 c =
+    let q = c .settled2 .ensures in
+    let i = c .before .before .before .loop .inv in
+    (λ e. rw (q .0, q .2) (goes-whole _ _ (i .7 .1) (c .before .if1 .left)), (rw (q .0) (i .5), rw (q .2) (i .6)))
 
 pub feed-spec : {M : Type 1} → statement M
 feed-spec =
@@ -70,15 +98,19 @@ feed-spec =
     Inv-loop
     μ-loop
     loop-holds
-    take-requires
-    settle-requires
-    loop-less
-    loop-again
+    take-lines-requires
+    slice-reshare-prefix-put
+    slice-aggregate-put
+    put-requires
+    settled-requires
     same-length
     same-length-2
     same-length-3
     same-length-4
     returns
+    loop-less
+    loop-again
+    settled-requires-2
     same-length-5
     same-length-6
     same-length-7

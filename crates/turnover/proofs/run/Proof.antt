@@ -1,60 +1,119 @@
-use Prim.Native.Nat.{_-_, _≤_}
-use mathlib.Core.Path.{_≡_, refl}
+use Prim.Native.Nat.{ℕ, _≤_}
+use mathlib.Core.Path.{_≡_, refl, sym, _∙_}
+use mathlib.Core.Bool.{true≢false}
+use mathlib.Core.List.{List, []}
 use native.Mathlib.Omega.{arith}
+use denote.Ref.{now}
 use lib.ListN.{length}
 use borrow.Author.Needs.{needs}
-use Rattle.driver.specs.Run.{Ready}
+use borrow.Author.Tests.{not-true}
+use Rattle.codec.proofs.BlankLaws.{blank-length}
+use Rattle.driver.specs.Run.{standing, Ready}
+use Rattle.session.specs.Turnover.{beginning, Passes}
+use Rattle.session.proofs.Laws.{goes-none, passes-more, all-printed}
 use Rattle.turnover.proofs.run.Statement.{statement}
 use Rattle.turnover.proofs.run.Tie as tie
 
 abbrev Inv-loop : tie.InvT-loop
-Inv-loop line₀ block₀ area₀ out₀ s₀ turns₀ line block area out s turns =
-    (s .have ≤ 32) × (s .end ≤ 65356) × (length line ≡ 32) × (length block ≡ 512) × (length area ≡ length area₀) × (length out ≡ 65536) × Ready (s .run .stage) area
+Inv-loop bytes₀ line₀ block₀ area₀ out₀ s₀ turns₀ bytes line block area out s turns =
+    (s .have ≤ 32) × (length bytes ≡ length bytes₀) × (length line ≡ length line₀) × (length block ≡ length block₀) × (length area ≡ length area₀) × (length out ≡ length out₀) × Ready (s .run .stage) area
+    × ((input : List ℕ) × Passes beginning line₀ 0 input (standing (s .run) block area) line (s .have))
 
 abbrev μ-loop : tie.MeasureT-loop
-μ-loop line₀ block₀ area₀ out₀ s₀ turns₀ line block area out s turns = turns
+μ-loop bytes₀ line₀ block₀ area₀ out₀ s₀ turns₀ bytes line block area out s turns = turns
 
 opened-requires : tie.Need-opened-requires Inv-loop μ-loop
 opened-requires c κs = search needs
 
 loop-holds : tie.Need-loop-holds Inv-loop μ-loop
-loop-holds c = let p = c .before .before .before .before .before .pre in (omega arith, omega arith, p .0, p .1, refl, p .2, rw (c .opened .ensures) tt)
-
-turn-requires : tie.Need-turn-requires Inv-loop μ-loop
-turn-requires c κs = search needs
+loop-holds c =
+    let p = c .before .before .before .before .before .before .pre in
+    (omega arith, refl, refl, refl, refl, refl, rw (c .opened .ensures) tt, ([], ([], rw (p .1, p .2, c .opened .ensures) (goes-none beginning _ 0 []))))
 
 sub-turns : tie.Need-sub-turns Inv-loop μ-loop
 sub-turns c = search needs
+
+turn-requires : tie.Need-turn-requires Inv-loop μ-loop
+turn-requires c κs =
+    let p = c .before .before .before .before .before .before .before .before .before .before .before .before .before .pre in
+    let i = c .before .before .before .before .before .before .loop .inv in
+    let n : length (now (c .before .before .before .before .before .before .before .before .before .before .before .before .before .args .block)) ≡ 512 = rw (p .1) (blank-length 512) in
+    (i .0, omega (arith, p .0, i .2), omega (arith, i .3), omega (arith, p .3, i .5), i .6)
+
+same-length : tie.Need-same-length Inv-loop μ-loop
+same-length c = omega (arith, c .before .before .before .before .before .before .before .before .before .before .before .before .before .before .before .before .before .before .loop .inv .1)
+
+same-length-2 : tie.Need-same-length-2 Inv-loop μ-loop
+same-length-2 c = omega (arith, c .before .before .before .before .before .before .before .before .before .before .before .before .before .before .before .before .before .before .loop .inv .2)
+
+same-length-3 : tie.Need-same-length-3 Inv-loop μ-loop
+same-length-3 c = omega (arith, c .before .before .before .before .before .before .before .before .before .before .before .before .before .before .before .before .before .before .loop .inv .3)
+
+same-length-4 : tie.Need-same-length-4 Inv-loop μ-loop
+same-length-4 c = omega (arith, c .before .before .before .before .before .before .before .before .before .before .before .before .before .before .before .before .before .before .loop .inv .4)
+
+same-length-5 : tie.Need-same-length-5 Inv-loop μ-loop
+same-length-5 c = omega (arith, c .before .before .before .before .before .before .before .before .before .before .before .before .before .before .before .before .before .before .loop .inv .5)
+
+returns : tie.Need-returns Inv-loop μ-loop
+returns c = (λ e. absurd (true≢false (sym (c .if1 .taken) ∙ e)), omega arith)
+
+finish-requires : tie.Need-finish-requires Inv-loop μ-loop
+finish-requires c κs =
+    let p = c .before .before .before .before .before .before .before .before .before .before .before .before .before .before .before .before .before .before .before .before .before .before .before .before .before .before .before .before .before .before .before .pre in
+    let i = c .before .before .before .before .before .before .before .before .before .before .before .before .before .before .before .before .before .before .before .before .before .before .before .before .loop .inv in
+    let f = c .before .before .before .before .before .before .before .before .before .before .before .before .before .before .before .before .before .turn .ensures in
+    let n : length (now (c .before .before .before .before .before .before .before .before .before .before .before .before .before .before .before .before .before .before .before .before .before .before .before .before .before .before .before .before .before .before .before .args .block)) ≡ 512 = rw (p .1) (blank-length 512) in
+    (f .1 .0, omega (arith, p .0, i .2), omega (arith, p .3, i .5), omega (arith, i .3), f .1 .1)
+
+same-length-6 : tie.Need-same-length-6 Inv-loop μ-loop
+same-length-6 c = omega (arith, c .before .before .before .before .before .before .before .before .before .before .before .before .before .before .before .before .before .before .before .before .before .before .before .before .before .before .before .before .before .before .before .loop .inv .1)
+
+same-length-7 : tie.Need-same-length-7 Inv-loop μ-loop
+same-length-7 c = omega (arith, c .before .before .before .before .before .before .before .before .before .before .before .before .before .before .before .before .before .before .before .before .before .before .before .before .before .before .before .before .before .before .before .loop .inv .2)
+
+same-length-8 : tie.Need-same-length-8 Inv-loop μ-loop
+same-length-8 c = omega (arith, c .before .before .before .before .before .before .before .before .before .before .before .before .before .before .before .before .before .before .before .before .before .before .before .before .before .before .before .before .before .before .before .loop .inv .3)
+
+same-length-9 : tie.Need-same-length-9 Inv-loop μ-loop
+same-length-9 c = omega (arith, c .before .before .before .before .before .before .before .before .before .before .before .before .before .before .before .before .before .before .before .before .before .before .before .before .before .before .before .before .before .before .before .loop .inv .4)
+
+same-length-10 : tie.Need-same-length-10 Inv-loop μ-loop
+same-length-10 c = omega (arith, c .before .before .before .before .before .before .before .before .before .before .before .before .before .before .before .before .before .before .before .before .before .before .before .before .before .before .before .before .before .before .before .loop .inv .5)
+
+returns-2 : tie.Need-returns-2 Inv-loop μ-loop
+returns-2 c =
+    let i = c .before .before .before .before .before .before .before .before .before .before .before .before .before .before .before .before .before .before .before .before .before .before .before .before .before .before .before .before .before .before .before .loop .inv in
+    let f = c .before .before .before .before .before .before .before .before .before .before .before .before .before .before .before .before .before .before .before .before .before .before .before .before .turn .ensures in
+    let w = c .before .before .before .before .before .before .finish .ensures in
+    (λ e. all-printed (passes-more (i .7 .1) (f .0 (c .before .before .before .before .before .before .before .before .before .before .before .before .before .if1 .left) .1)) (w .0), omega (arith, w .1))
 
 loop-less : tie.Need-loop-less Inv-loop μ-loop
 loop-less c = search needs
 
 loop-again : tie.Need-loop-again Inv-loop μ-loop
 loop-again c =
-    let i = c .before .before .before .before .before .before .before .before .before .before .before .before .before .before .before .loop .inv in
-    let f = c .before .before .before .before .before .before .before .before .turn .ensures in
-    (f .0, f .1, omega (arith, i .2), omega (arith, i .3), omega (arith, i .4), omega (arith, i .5), f .2)
+    let i = c .before .before .before .before .before .before .before .before .before .before .before .before .before .before .before .before .before .before .before .loop .inv in
+    let f = c .before .before .before .before .before .before .before .before .before .before .before .before .turn .ensures in
+    (f .1 .0, omega (arith, i .1), omega (arith, i .2), omega (arith, i .3), omega (arith, i .4), omega (arith, i .5), f .1 .1, (_, passes-more (i .7 .1) (f .0 (c .before .if1 .left) .1)))
 
-finish-requires : tie.Need-finish-requires Inv-loop μ-loop
-finish-requires c κs = search needs
+same-length-11 : tie.Need-same-length-11 Inv-loop μ-loop
+same-length-11 c = search needs
 
-flush-requires : tie.Need-flush-requires Inv-loop μ-loop
-flush-requires c κs = search needs
+same-length-12 : tie.Need-same-length-12 Inv-loop μ-loop
+same-length-12 c = search needs
 
-same-length : tie.Need-same-length Inv-loop μ-loop
-same-length c = search needs
+same-length-13 : tie.Need-same-length-13 Inv-loop μ-loop
+same-length-13 c = search needs
 
-same-length-2 : tie.Need-same-length-2 Inv-loop μ-loop
-same-length-2 c = search needs
+same-length-14 : tie.Need-same-length-14 Inv-loop μ-loop
+same-length-14 c = search needs
 
-same-length-3 : tie.Need-same-length-3 Inv-loop μ-loop
-same-length-3 c = search needs
+same-length-15 : tie.Need-same-length-15 Inv-loop μ-loop
+same-length-15 c = search needs
 
-same-length-4 : tie.Need-same-length-4 Inv-loop μ-loop
-same-length-4 c = search needs
-
-returns : tie.Need-returns Inv-loop μ-loop
-returns c = search needs
+returns-3 : tie.Need-returns-3 Inv-loop μ-loop
+returns-3 c = (λ e. absurd (true≢false e), omega arith)
 
 pub run-spec : {M : Type 1} → statement M
 run-spec =
@@ -64,14 +123,26 @@ run-spec =
     μ-loop
     opened-requires
     loop-holds
-    turn-requires
     sub-turns
-    loop-less
-    loop-again
-    finish-requires
-    flush-requires
+    turn-requires
     same-length
     same-length-2
     same-length-3
     same-length-4
-    returns)
+    same-length-5
+    returns
+    finish-requires
+    same-length-6
+    same-length-7
+    same-length-8
+    same-length-9
+    same-length-10
+    returns-2
+    loop-less
+    loop-again
+    same-length-11
+    same-length-12
+    same-length-13
+    same-length-14
+    same-length-15
+    returns-3)
