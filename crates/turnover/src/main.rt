@@ -4,6 +4,7 @@ use libc::EAGAIN;
 use libc::EINTR;
 use libc::STDIN_FILENO;
 use libc::STDOUT_FILENO;
+use libc::types::timespec;
 use session::Taken;
 use settings::Run;
 ghost use mathlib.Core.Path.{_≡_};
@@ -29,14 +30,23 @@ struct Last {
     failed: bool,
 }
 
-// Whether a call that failed is made again: a signal came, or the file was not ready.
+// Waits for as long as is asked, or until a signal comes.
+fn wait(asked: timespec) {
+    let mut left = asked;
+    libc::nanosleep(&asked, &mut left);
+}
+
+// Whether a call that failed is made again: a signal came, or the file was not ready, and then for a millisecond it is not asked.
 fn again() -> bool {
     let error = os::errno();
     if error == EINTR {
         return true;
     }
     if error == EAGAIN {
-        libc::sched_yield();
+        wait(timespec {
+            tv_sec: 0,
+            tv_nsec: 1000000,
+        });
         return true;
     }
     false
