@@ -39,18 +39,18 @@ fn take(
     ensures { λ r. ⌜ Ready (r .run .stage) (now (area .exit)) ⌝ }
 {
     let f = lines::fill(line, have, bytes, at);
-    let have = f.have;
-    let next = f.next;
     let whole = f.whole;
     if !whole {
         return Taken {
-            have,
-            next,
+            have: f.have,
+            next: f.next,
             end,
             run,
         };
     }
-    let told = driver::obey(block, area, out, end, run, lines::said(&line[..], have));
+    let kept = f.have;
+    let next = f.next;
+    let told = driver::obey(block, area, out, end, run, lines::said(&line[..], kept));
     let after = told.run;
     Taken {
         have: 0,

@@ -24,7 +24,7 @@ struct Reading {
     run: Run,
 }
 
-// The rest of what is printed, and whether all before it was.
+// Where the rest of what is printed ends in the buffer, and whether a read or a write has failed.
 struct Last {
     end: usize,
     failed: bool,

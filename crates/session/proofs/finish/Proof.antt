@@ -27,7 +27,7 @@ returns c =
     let g = c .before .before .before .before .before .before .before .before .before .before .before .before .before .before .before .args in
     let o = c .before .before .before .before .before .before .close .ensures .0 in
     let n = o .short in
-    ((λ t k. rw (kept-empty _ _ t k .0 (c .before .before .before .before .before .before .before .before .before .before .if1 .taken), end-none (standing (g .run) (now (g .block)) (now (g .area)))) (o .text)), omega arith)
+    ((λ t k. rw (kept-empty _ _ t k .0 (omega (arith, c .before .before .before .before .before .before .before .before .before .before .if1 .taken)), end-none (standing (g .run) (now (g .block)) (now (g .area)))) (o .text)), omega arith)
 
 said-requires : tie.Need-said-requires
 said-requires c κs = search needs
@@ -57,7 +57,7 @@ returns-2 c =
     let m = o .short in
     let n = p .short in
     let w : c .before .before .before .before .before .before .before .before .before .before .before .before .before .before .before .before .before .obey .result .end ≤ length (now (g .out)) = omega (arith, m, c .before .before .before .before .before .before .before .before .before .before .before .before .before .before .before .before .before .before .before .before .before .before .before .before .before .before .before .pre .2) in (
-      (λ t k. rw (end-line s _ _ y t (λ e. c .before .before .before .before .before .before .before .before .before .before .before .before .before .before .before .before .before .before .before .before .before .before .if1 .left (kept-empty _ _ t k .1 e)) (c .before .before .before .before .before .before .before .before .before .before .before .before .before .before .before .before .before .before .said .ensures t k .0)) (written-more (o .text) (p .text) w)),
+      (λ t k. rw (end-line s _ _ y t (λ e. let z = kept-empty _ _ t k .1 e in omega (arith, c .before .before .before .before .before .before .before .before .before .before .before .before .before .before .before .before .before .before .before .before .before .before .if1 .left)) (c .before .before .before .before .before .before .before .before .before .before .before .before .before .before .before .before .before .before .said .ensures t k .0)) (written-more (o .text) (p .text) w)),
       omega arith,
     )
 

@@ -27,11 +27,11 @@ returns c =
       record {
         text = [];
         printed = written-none _ _;
-        fits = f .fits;
-        inside = f .inside;
+        fits = omega (arith, f .fits);
+        inside = omega (arith, f .inside);
         goes = record { whole = λ t k. (t ++ before d, f .line t k, λ more. part-line (standing (g .run) (now (g .block)) (now (g .area))) t d _ more (sym (f .whole) ∙ not-true _ (c .if1 .taken)) (f .rest)) };
       },
-      (record { short = omega arith; on = f .on }, c .before .before .before .before .before .before .before .before .before .before .pre .5),
+      (record { short = omega arith; on = λ h. omega (arith, f .on h) }, c .before .before .before .before .before .before .before .before .before .before .pre .5),
     )
 
 said-requires : tie.Need-said-requires
@@ -64,11 +64,11 @@ returns-2 c =
       record {
         text = obeyed s (c .before .before .before .before .before .before .before .before .said .result) .text;
         printed = o .0 .text;
-        fits = omega arith;
-        inside = f .inside;
+        fits = omega (arith, c .before .before .before .before .before .before .before .before .before .before .before .before .before .before .before .before .before .before .before .before .before .before .before .pre .0);
+        inside = omega (arith, f .inside);
         goes = record { whole = λ t k. ([], kept-none _, λ more. line-taken s _ _ y t d _ more (sym (f .whole) ∙ not-false _ (c .before .before .before .before .before .before .before .before .before .before .before .before .before .if1 .left)) (f .rest) (q (t ++ before d) (f .line t k) .0)) };
       },
-      (record { short = o .0 .short; on = f .on }, o .1),
+      (record { short = o .0 .short; on = λ h. omega (arith, f .on h) }, o .1),
     )
 
 pub take-spec : {M : Type 1} → statement M

@@ -28,16 +28,24 @@ sub-if2 : tie.Need-sub-if2 Inv-loop μ-loop
 sub-if2 c = search needs
 
 take-requires : tie.Need-take-requires Inv-loop μ-loop
-take-requires c κs = let i = c .before .before .before .before .before .before .before .before .before .loop .inv in let f = i .8 in (f .fits, i .0, f .inside, omega arith, i .1, i .7)
+take-requires c κs =
+    let p = c .before .before .before .before .before .before .before .before .before .before .before .before .before .before .before .pre in
+    let i = c .before .before .before .before .before .before .before .before .before .loop .inv in
+    let f = i .8 in
+    (omega (arith, p .0, f .fits), i .0, omega (arith, f .inside, i .4), omega arith, i .1, i .7)
 
 loop-less : tie.Need-loop-less Inv-loop μ-loop
-loop-less c = let f = c .before .before .before .before .before .before .before .before .take .ensures in omega (arith, f .0 .inside, f .1 .0 .on (c .before .before .before .before .before .before .before .before .before .before .before .before .before .before .before .before .if1 .taken))
+loop-less c =
+    let i = c .before .before .before .before .before .before .before .before .before .before .before .before .before .before .before .before .before .before .loop .inv in
+    let f = c .before .before .before .before .before .before .before .before .take .ensures in
+    let n = f .1 .0 .on (omega (arith, i .4, c .before .before .before .before .before .before .before .before .before .before .before .before .before .before .before .before .if1 .taken)) in
+    omega (arith, f .0 .inside)
 
 loop-again : tie.Need-loop-again Inv-loop μ-loop
 loop-again c =
     let i = c .before .before .before .before .before .before .before .before .before .before .before .before .before .before .before .before .before .before .loop .inv in
     let f = c .before .before .before .before .before .before .before .before .take .ensures in
-    let n = f .1 .0 .on (c .before .before .before .before .before .before .before .before .before .before .before .before .before .before .before .before .if1 .taken) in
+    let n = f .1 .0 .on (omega (arith, i .4, c .before .before .before .before .before .before .before .before .before .before .before .before .before .before .before .before .if1 .taken)) in
     let m = f .1 .0 .short in
     (omega (arith, i .0), omega (arith, i .1), omega (arith, i .2), omega (arith, i .3), omega (arith, i .4), λ e. absurd (omega (arith, i .4)), omega (arith, i .3, i .6), f .1 .1, takes-more (i .8) (f .0) (i .6))
 

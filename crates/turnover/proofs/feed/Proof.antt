@@ -3,7 +3,6 @@ use mathlib.Core.Path.{_≡_, refl, sym, _∙_}
 use mathlib.Core.Bool.{true≢false}
 use mathlib.Core.List.{List, []}
 use native.Mathlib.Omega.{arith}
-use denote.Ref.{now}
 use lib.ListN.{length, drop, length-take}
 use borrow.Author.Needs.{needs}
 use Rattle.driver.specs.Run.{standing, Ready}
@@ -26,7 +25,7 @@ loop-holds c =
     (p .1, p .2, refl, p .3, omega arith, p .0, p .4, ([], goes-none _ _ _ _))
 
 take-lines-requires : tie.Need-take-lines-requires Inv-loop μ-loop
-take-lines-requires c κs = let i = c .before .before .before .before .before .before .before .loop .inv in (i .5, i .0, i .4, omega arith, i .1, i .6)
+take-lines-requires c κs = let i = c .before .before .before .before .before .before .before .loop .inv in (i .5, i .0, omega (arith, i .4), omega arith, i .1, i .6)
 
 slice-reshare-prefix-put : tie.Need-slice-reshare-prefix-put Inv-loop μ-loop
 slice-reshare-prefix-put c = search needs
@@ -62,7 +61,7 @@ loop-less : tie.Need-loop-less Inv-loop μ-loop
 loop-less c =
     let i = c .before .before .before .before .before .before .before .before .before .before .before .before .before .before .before .before .before .before .before .loop .inv in
     let f = c .before .before .before .before .before .before .before .before .before .before .before .take-lines .ensures in
-    omega (arith, f .0 .inside, f .1 .0 .on (c .before .before .before .before .before .before .before .before .before .before .before .before .before .before .before .before .before .if1 .taken) (omega (arith, i .3)))
+    omega (arith, f .0 .inside, f .1 .0 .on (omega (arith, i .4, c .before .before .before .before .before .before .before .before .before .before .before .before .before .before .before .before .before .if1 .taken)) (omega (arith, i .3)))
 
 loop-again : tie.Need-loop-again Inv-loop μ-loop
 loop-again c =

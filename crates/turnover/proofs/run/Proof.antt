@@ -6,7 +6,6 @@ use native.Mathlib.Omega.{arith}
 use denote.Ref.{now}
 use lib.ListN.{length}
 use borrow.Author.Needs.{needs}
-use borrow.Author.Tests.{not-true}
 use Rattle.codec.proofs.BlankLaws.{blank-length}
 use Rattle.driver.specs.Run.{standing, Ready}
 use Rattle.session.specs.Turnover.{beginning, Passes}

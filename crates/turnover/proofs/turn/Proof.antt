@@ -1,6 +1,4 @@
 use mathlib.Core.List.{[]}
-use native.Mathlib.Omega.{arith}
-use denote.Ref.{now}
 use borrow.Author.Needs.{needs}
 use Rattle.session.proofs.Laws.{goes-none}
 use Rattle.turnover.proofs.turn.Statement.{statement}
