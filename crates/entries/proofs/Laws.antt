@@ -81,7 +81,7 @@ well-made-count l h = let p = front-parts l (well-made-parts l h .1) in (p .2, p
 
 -- ---- the block
 -- the records' bytes of a block
-pub recordBytes : List ℕ → List ℕ
+unfoldable pub recordBytes : List ℕ → List ℕ
 recordBytes l = take (countOf l * 32) (drop 16 l)
 
 zeros-behind : (l : List ℕ) → bodyFits l (countOf l) ≡ true → allZero (take (510 - recordsEnd (countOf l)) (drop (recordsEnd (countOf l)) l)) ≡ true
