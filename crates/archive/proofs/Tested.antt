@@ -30,7 +30,7 @@ module _ (a : List ℕ) (tested : archiveTest a ≡ true) where
       go false e l = (let n : blocks a ≡ 0 → ⊥ = eqb-false _ _ e in omega arith, l)
 
   -- a block that is not the last has fifteen records
-  full : (b : ℕ) → b < blocks a → (b + 1 ≡ blocks a → ⊥) → countOf (blockOf a b) ≡ 15
+  pub full : (b : ℕ) → b < blocks a → (b + 1 ≡ blocks a → ⊥) → countOf (blockOf a b) ≡ 15
   full b l n = eqb-true _ _ (go (eqb (b + 1) (blocks a)) refl (block-parts a tested b l .2))
     where
       go : (t : Bool) → eqb (b + 1) (blocks a) ≡ t → (t || eqb (countOf (blockOf a b)) 15) ≡ true → eqb (countOf (blockOf a b)) 15 ≡ true
