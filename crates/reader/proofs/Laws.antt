@@ -1,18 +1,14 @@
--- How many records bytes say they have, and where moving on leads: on any bytes. Assumes nothing.
+-- How many records bytes say they have, and where opening leads: on any bytes. Assumes nothing.
 use Prim.Native.Nat.{ℕ, _+_, _*_, _-_, _/_, _≤_, _<_}
 use mathlib.Core.Path.{_≡_}
 use mathlib.Core.Logic.{_≢_}
 use mathlib.Core.List.{List}
-use mathlib.Core.Bool.{cond}
 use native.Mathlib.Omega.{arith}
-use native.Mathlib.Decide.{decLt}
-use lib.Dec.{eqb}
 use lib.ListN.{length, getD}
 use lib.Seq.{getD-take, getD-drop}
 use borrow.Author.Tests.{lt-ltb, le-ltb, eq-eqb, ne-eqb}
 use Rattle.archive.specs.Archive.{blockOf, blocks, records}
-use Rattle.reader.specs.Reading.{goes, stays, nextAt}
-use Rattle.reader.specs.declared.Place.{Place}
+use Rattle.reader.specs.Reading.{goes, stays, openAt}
 
 pub records-none : (a : List ℕ) → length a / 512 < 2 → records a ≡ 0
 unfolding records blocks
@@ -28,22 +24,19 @@ records-some a n e h =
     let s : 1 < 512 = omega arith in
     rw (ne-eqb _ 0 d, p, q, getD-take, getD-drop)
 
-pub next-goes : (a : List ℕ) (k : ℕ) → k + 1 < records a → nextAt a k ≡ goes (k + 1)
-unfolding nextAt
-next-goes a k h = rw (lt-ltb _ _ h)
+-- where there are records there are bytes
+pub some-bytes : (a : List ℕ) (k : ℕ) → k < records a → length a ≢ 0
+some-bytes a k h e = omega (arith, records-none a (omega arith))
 
-pub next-stays : (a : List ℕ) (k : ℕ) → records a ≤ k + 1 → nextAt a k ≡ stays k 12
-unfolding nextAt
-next-stays a k h = rw (le-ltb _ _ h)
+-- ---- opening, in its three cases
+pub open-nothing : (a : List ℕ) (k at : ℕ) → length a ≡ 0 → openAt a k at ≡ stays at 1
+unfolding openAt
+open-nothing a k at e = rw (eq-eqb _ 0 e)
 
--- how many places are left to a reading at p: it falls with each move, so reading ends on any bytes
-unfoldable pub left : List ℕ → Place → ℕ
-left a p = cond (eqb (p .refusal) 0) (records a - p .at + 1) 0
+pub open-goes : (a : List ℕ) (k at : ℕ) → k < records a → openAt a k at ≡ goes k
+unfolding openAt
+open-goes a k at h = rw (ne-eqb _ 0 (some-bytes a k h), lt-ltb _ _ h)
 
-pub left-falls : (a : List ℕ) (p : Place) → p .refusal ≡ 0 → left a (nextAt a (p .at)) < left a p
-unfolding left
-left-falls a p e = rw (eq-eqb _ 0 e) (go (decLt (p .at + 1) (records a)))
-  where
-    go : Dec (p .at + 1 < records a) → cond (eqb (nextAt a (p .at) .refusal) 0) (records a - nextAt a (p .at) .at + 1) 0 < records a - p .at + 1
-    go (yes l) = rw (next-goes a (p .at) l) (omega arith)
-    go (no d) = let h : records a ≤ p .at + 1 = omega arith in rw (next-stays a (p .at) h) (omega arith)
+pub open-stays : (a : List ℕ) (k at : ℕ) → length a ≢ 0 → records a ≤ k → openAt a k at ≡ stays at 12
+unfolding openAt
+open-stays a k at d h = rw (ne-eqb _ 0 d, le-ltb _ _ h)

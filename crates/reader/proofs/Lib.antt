@@ -1,5 +1,5 @@
 pub mod Laws
 pub mod Whole
-pub mod After
+pub mod Made
 pub mod Held
 pub mod Lent

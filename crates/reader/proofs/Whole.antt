@@ -1,44 +1,22 @@
 -- An opened reader reads each record from there on once, in order, to the last. Assumes nothing.
 use Prim.Native.Nat.{ℕ, zero, suc, _+_, _-_, _/_, _%_, _≤_, _<_}
-use mathlib.Core.Path.{_≡_, refl, _∙_}
+use mathlib.Core.Path.{_≡_, _∙_}
 use mathlib.Core.List.{List, [], _∷_}
-use mathlib.Core.Bool.{Bool, true, false, cond}
+use mathlib.Core.Bool.{true}
 use native.Mathlib.Omega.{arith}
 use native.Mathlib.Decide.{decLt}
-use lib.Dec.{ltb}
 use lib.ListN.{length, getD}
-use borrow.Author.Tests.{lt-ltb, le-ltb}
 use Rattle.record.specs.Record.{wellMadeRecord}
 use Rattle.entries.specs.Entries.{recordOf}
-use Rattle.archive.specs.Archive.{blockOf, records, recordAt, findRecord, archiveTest}
-use Rattle.reader.specs.Reading.{goes, stays, openAt, nextAt, reading}
-use Rattle.reader.specs.declared.Place.{Place}
-use Rattle.reader.proofs.Laws.{next-goes, next-stays}
+use Rattle.archive.specs.Archive.{blockOf, records, recordAt, archiveTest}
+use Rattle.reader.specs.Reading.{reading}
+use Rattle.reader.proofs.Laws.{some-bytes, open-goes, open-stays}
 use Rattle.archive.proofs.Tested.{record-place, record-well-made, record-length}
 
 -- ---- what an opened reader stands on
 pub record Opened (a : List ℕ) (k : ℕ) : Type 0 where
   pub tested : archiveTest a ≡ true
   pub there : k < records a
-
--- where opening is not refused, the bytes are an archive, and the reader is on a record of it
-pub opened-right : (a : List ℕ) (k at : ℕ) → openAt a k at .refusal ≡ 0 → Opened a k × (openAt a k at .at ≡ k)
-unfolding openAt findRecord
-opened-right a k at h = go (archiveTest a) refl (decLt k (records a))
-  where
-    go : (t : Bool) → archiveTest a ≡ t → Dec (k < records a) → Opened a k × (openAt a k at .at ≡ k)
-    go false e d = absurd (omega (arith, rw e at h))
-    go true e (yes l) = (record { tested = e; there = l }, rw (e, lt-ltb _ _ l))
-    go true e (no d) = let l : records a ≤ k = omega arith in absurd (omega (arith, rw (e, le-ltb _ _ l) at h))
-
--- on a tested archive moving on answers what opening at the next number would
-pub moves-right : (a : List ℕ) → archiveTest a ≡ true → (k : ℕ) → nextAt a k .refusal ≡ findRecord a (k + 1)
-unfolding nextAt findRecord
-moves-right a tested k = rw tested (go (ltb (k + 1) (records a)))
-  where
-    go : (t : Bool) → cond {A = Place} t (goes (k + 1)) (stays k 12) .refusal ≡ cond t 0 12
-    go true = refl
-    go false = refl
 
 -- what it hands back: the record in its block, 32 bytes that are well made
 pub record Right (a : List ℕ) (k : ℕ) : Type 0 where
@@ -57,21 +35,21 @@ record-right a k o =
 -- ---- reading, on any bytes: from place k on, to the last
 reading-goes : (a : List ℕ) (n k : ℕ) → k + 1 < records a → reading (suc n) a k ≡ recordAt a k ∷ reading n a (k + 1)
 unfolding reading
-reading-goes a n k h = rw (next-goes a k h)
+reading-goes a n k h = rw (open-goes a (k + 1) k h)
 
-reading-stays : (a : List ℕ) (n k : ℕ) → records a ≤ k + 1 → reading (suc n) a k ≡ recordAt a k ∷ []
+reading-stays : (a : List ℕ) (n k : ℕ) → k < records a → records a ≤ k + 1 → reading (suc n) a k ≡ recordAt a k ∷ []
 unfolding reading
-reading-stays a n k h = rw (next-stays a k h)
+reading-stays a n k l h = rw (open-stays a (k + 1) k (some-bytes a k l) h)
 
 record Met (a : List ℕ) (n k : ℕ) : Type 0 where
   all : length (reading n a k) ≡ records a - k
   each : (i : ℕ) → k + i < records a → getD (reading n a k) i [] ≡ recordAt a (k + i)
 
 met-last : (a : List ℕ) (n k : ℕ) → k < records a → records a ≤ k + 1 → Met a (suc n) k
-met-last a n k h g = record { all = rw (reading-stays a n k g) (omega arith); each = each }
+met-last a n k h g = record { all = rw (reading-stays a n k h g) (omega arith); each = each }
   where
     each : (i : ℕ) → k + i < records a → getD (reading (suc n) a k) i [] ≡ recordAt a (k + i)
-    each zero l = let e : k + 0 ≡ k = omega arith in rw (reading-stays a n k g, e)
+    each zero l = let e : k + 0 ≡ k = omega arith in rw (reading-stays a n k h g, e)
     each (suc i) l = absurd (omega arith)
 
 met-more : (a : List ℕ) (n k : ℕ) → k + 1 < records a → Met a n (k + 1) → Met a (suc n) k

@@ -3,12 +3,17 @@ use Prim.Native.Nat.{ℕ, zero, suc, _+_}
 use mathlib.Core.List.{List, [], _∷_}
 use mathlib.Core.Bool.{cond}
 use lib.Dec.{eqb, ltb}
+use lib.ListN.{length}
 use denote.Ref.{now}
-use Rattle.archive.specs.Archive.{records, recordAt, findRecord}
+use Rattle.archive.specs.Archive.{records, recordAt, archiveTest}
 use Rattle.reader.specs.declared.Place.{Place}
 use Rattle.reader.specs.declared.Reader.{Reader}
 
--- ---- on any bytes
+-- ---- on bytes
+-- what a reader made of bytes stands on: the bytes where they are an archive, else nothing. Nothing is the empty part, which is no archive
+unfoldable pub testedPart : List ℕ → List ℕ
+testedPart b = cond (archiveTest b) b []
+
 -- refused, and at the same place
 abbrev pub stays : ℕ → ℕ → Place
 stays at refusal = record { at = at; refusal = refusal }
@@ -17,23 +22,19 @@ stays at refusal = record { at = at; refusal = refusal }
 abbrev pub goes : ℕ → Place
 goes at = record { at = at; refusal = 0 }
 
--- opening at a number, from place `at`: refused where there is no such record, by 1 or 12. The whole archive is tested
+-- opening at a number, from place `at`: on nothing refused by 1; where there is no such record by 12. Any bytes have an answer. The
+-- length and the last block's count say how many records there are, and on an archive that is right
 unfoldable pub openAt : List ℕ → ℕ → ℕ → Place
-openAt a number at = cond (eqb (findRecord a number) 0) (goes number) (stays at (findRecord a number))
+openAt a number at = cond (eqb (length a) 0) (stays at 1) (cond (ltb number (records a)) (goes number) (stays at 12))
 
--- moving on by one: refused where no record follows, by 12. Nothing is tested: the length and the last block's count say how many records
--- there are, and where the archive was tested that is right
-unfoldable pub nextAt : List ℕ → ℕ → Place
-nextAt a at = cond (ltb (at + 1) (records a)) (goes (at + 1)) (stays at 12)
+-- moving on by one: opening at the next number
+abbrev pub nextAt : List ℕ → ℕ → Place
+nextAt a at = openAt a (at + 1) at
 
 -- the records met from place `at` on, moving on until that is refused; at most n of them
 unfoldable pub reading : ℕ → List ℕ → ℕ → List (List ℕ)
 reading zero a at = []
 reading (suc n) a at = recordAt a at ∷ cond (eqb (nextAt a at .refusal) 0) (reading n a (nextAt a at .at)) []
-
--- a part where neither of two calls was refused, else none
-abbrev pub unlessRefused : ℕ → ℕ → List ℕ → List ℕ
-unlessRefused first second part = cond (eqb first 0) (cond (eqb second 0) part []) []
 
 -- ---- of a reader
 -- the same archive at another place

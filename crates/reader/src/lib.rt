@@ -1,19 +1,20 @@
 // A reader of an archive: a struct that holds the archive and a record's number. The work is done by functions on a slice and
-// numbers, which anyone can use; those over the struct are thin.
+// numbers; those over the struct are thin. The archive is tested once, when the reader is made.
 ghost use mathlib.Core.Path.{_≡_};
-ghost use Prim.Native.Nat.{_+_};
-ghost use Rattle.archive.specs.Archive.{records, recordAt, foundRecord};
-ghost use Rattle.reader.specs.Reading.{openAt, nextAt, unlessRefused, standing, opened, advanced};
+ghost use Rattle.archive.specs.Archive.{records, recordAt};
+ghost use Rattle.reader.specs.Reading.{testedPart, openAt, nextAt, standing, opened, advanced};
+ghost use Rattle.reader.specs.Made.{MadeOf};
 
-// A place in an archive after opening or moving on: a refusal's number, and where it was; or 0 and where it is now.
-pub struct Place {
-    pub at: usize,
-    pub refusal: u8,
+// Where a reader stands after it was opened or moved on: a refusal's number, and where it was; or 0 and where it is now.
+struct Place {
+    at: usize,
+    refusal: u8,
 }
 
+// The archive was tested, or it is the empty part: the fields are private, so every reader comes from `new`.
 pub struct Reader<'a> {
-    pub archive: &'a [u8],
-    pub at: usize,
+    archive: &'a [u8],
+    at: usize,
 }
 
 fn wide(x: u8) -> usize
@@ -34,13 +35,25 @@ fn count(archive: &[u8]) -> usize
     (n - 2) * 15 + wide(archive[o])
 }
 
-// Opens an archive at a record's number, from place `at`: 1, 12, or 0 when there is such a record. The archive is tested.
-pub fn open_at(archive: &[u8], number: usize, at: usize) -> Place
+// What a reader made of these bytes stands on: the bytes where they are an archive, else an empty part of them.
+fn tested<'a>(archive: &'a [u8]) -> &'a [u8]
+    ensures { λ s. ⌜ now s ≡ testedPart (now (archive .entry)) ⌝ }
+{
+    if archive::test(archive) {
+        return archive;
+    }
+    &archive[0..0]
+}
+
+// Opens at a record's number, from place `at`: 1 on the empty part, 12 where there is no such record, or 0. In constant time.
+fn open_at(archive: &[u8], number: usize, at: usize) -> Place
     ensures { λ r. ⌜ r ≡ openAt (now (archive .entry)) number at ⌝ }
 {
-    let refusal = archive::find(archive, number);
-    if refusal != 0 {
-        return Place { at, refusal };
+    if archive.len() == 0 {
+        return Place { at, refusal: 1 };
+    }
+    if count(archive) <= number {
+        return Place { at, refusal: 12 };
     }
     Place {
         at: number,
@@ -48,10 +61,13 @@ pub fn open_at(archive: &[u8], number: usize, at: usize) -> Place
     }
 }
 
-// Moves on from place `at` by one: 12 where no record follows, or 0. Nothing is tested, and the time is constant.
-pub fn next_at(archive: &[u8], at: usize) -> Place
+// Moves on from place `at` by one: what opening at the next number answers, also where there is no next number.
+fn next_at(archive: &[u8], at: usize) -> Place
     ensures { λ r. ⌜ r ≡ nextAt (now (archive .entry)) at ⌝ }
 {
+    if archive.len() == 0 {
+        return Place { at, refusal: 1 };
+    }
     let n = count(archive);
     if n <= at {
         return Place { at, refusal: 12 };
@@ -66,14 +82,18 @@ pub fn next_at(archive: &[u8], at: usize) -> Place
     }
 }
 
-// A reader on record 0; nothing is tested before `open`.
+// A reader on record 0; the archive is tested here and never again. Of bytes that are no archive it stands on the empty part,
+// and every call on it is refused by 1. Of a header alone it has no record to stand on, and every call is refused by 12.
 pub fn new<'a>(archive: &'a [u8]) -> Reader<'a>
-    ensures { λ r. ⌜ (r .archive ≡ archive .entry) × (r .at ≡ 0) ⌝ }
+    ensures { λ r. ⌜ MadeOf (now (archive .entry)) r ⌝ }
 {
-    Reader { archive, at: 0 }
+    Reader {
+        archive: tested(archive),
+        at: 0,
+    }
 }
 
-// Opens the reader's archive at a record's number: 1, 12 and the reader stays, or 0 and it stands there.
+// Opens the reader at a record's number: 1, 12 and it stays, or 0 and it stands there.
 pub fn open<'s, 'a>(r: &'s mut Reader<'a>, number: usize) -> u8
     ensures { λ n. ⌜ (n ≡ opened (now (r .entry)) number .refusal) × (now (r .exit) ≡ standing (now (r .entry)) (opened (now (r .entry)) number)) ⌝ }
 {
@@ -82,41 +102,18 @@ pub fn open<'s, 'a>(r: &'s mut Reader<'a>, number: usize) -> u8
     p.refusal
 }
 
-// The record on which the reader stands, as the caller's own 32 bytes; an empty part where the archive has no such block.
+// The record on which the reader stands, as the caller's own 32 bytes; an empty part where it stands on none.
 pub fn record<'a>(r: Reader<'a>) -> &'a [u8]
     ensures { λ s. ⌜ now s ≡ recordAt (now (r .entry .archive)) (r .entry .at) ⌝ }
 {
     archive::record_at(r.archive, r.at)
 }
 
-// Moves the reader on by one: from the last record 12, and it stays; else 0.
+// Moves the reader on by one: 1, from the last record 12, and it stays; else 0.
 pub fn advance<'s, 'a>(r: &'s mut Reader<'a>) -> u8
     ensures { λ n. ⌜ (n ≡ advanced (now (r .entry)) .refusal) × (now (r .exit) ≡ standing (now (r .entry)) (advanced (now (r .entry)))) ⌝ }
 {
     let p = next_at(r.archive, r.at);
     r.at = p.at;
     p.refusal
-}
-
-// The part where neither call was refused, else an empty one.
-fn unless_refused<'a>(part: &'a [u8], first: u8, second: u8) -> &'a [u8]
-    ensures { λ s. ⌜ now s ≡ unlessRefused first second (now (part .entry)) ⌝ }
-{
-    if first != 0 {
-        return &part[0..0];
-    }
-    if second != 0 {
-        return &part[0..0];
-    }
-    part
-}
-
-// The record after record `number`, by a reader that is opened there and moves on; an empty part where that is refused.
-pub fn record_after<'a>(archive: &'a [u8], number: usize) -> &'a [u8]
-    ensures { λ s. ⌜ now s ≡ foundRecord (now (archive .entry)) (number + 1) ⌝ }
-{
-    let mut r = new(archive);
-    let opened = open(&mut r, number);
-    let moved = advance(&mut r);
-    unless_refused(record(r), opened, moved)
 }

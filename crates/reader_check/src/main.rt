@@ -1,4 +1,5 @@
-// Makes archives of few records, reads each record by record, and writes what is met: register numbers and refusals.
+// Makes archives of few records and bytes that are none, takes a reader through each, and writes what every call answers: the
+// refusal, and the register number of the record that the reader then hands back.
 ghost use Prim.Native.Nat.{_+_, _≤_, _<_};
 use header::Header;
 use record::Record;
@@ -131,76 +132,92 @@ fn make(n: usize) -> [u8; 2048]
     a
 }
 
-fn register_of(s: &[u8]) -> usize {
-    if s.len() < 32 {
-        return 0;
+fn same(s: &[u8], t: &[u8]) -> bool {
+    if s.len() != t.len() {
+        return false;
     }
-    record::load(s).register as usize
-}
-
-// Every record from number k on, and how moving on ends.
-fn walk(a: &[u8], k: usize) {
-    let mut p = reader::open_at(a, k, 7);
-    say(b"\nfrom ", k);
-    say(b", refusal ", p.refusal as usize);
-    while p.refusal == 0 {
-        let at = p.at;
-        say(b" ", register_of(archive::record_at(a, at)));
-        let next = reader::next_at(a, at);
-        p = next;
+    let mut ok = true;
+    let mut i = 0;
+    while i < s.len() {
+        ok = ok & (s[i] == t[i]);
+        i += 1;
     }
-    say(b", then ", p.refusal as usize);
-    say(b" at ", p.at);
+    ok
 }
 
-// The record after record k, through a reader.
-fn after(a: &[u8], k: usize) {
-    say(b"\nafter ", k);
-    say(b" ", register_of(reader::record_after(a, k)));
+// A part that a reader handed back, beside the record that `archive::found` gives; record k has register number 1000 + k.
+fn tell(a: &[u8], part: &[u8]) {
+    if part.len() < 32 {
+        io::write_all(1, b" none");
+        return;
+    }
+    let register = record::load(part).register as usize;
+    say(b" ", register);
+    if register < 1000 {
+        return;
+    }
+    if same(part, archive::found(a, register - 1000)) {
+        io::write_all(1, b" as found");
+    }
 }
 
-fn next(a: &[u8], at: usize) {
-    let p = reader::next_at(a, at);
-    say(b"\nnext of ", at);
-    say(b" ", p.refusal as usize);
-    say(b" at ", p.at);
+// What a new reader hands back.
+fn made<'a>(a: &'a [u8], part: &'a [u8]) {
+    io::write_all(1, b"; made");
+    tell(a, part);
 }
 
-// The ends of an archive of n records.
+// What a call answered, and what the reader then hands back.
+fn told<'a>(a: &'a [u8], refusal: u8, part: &'a [u8]) {
+    say(b"; ", refusal as usize);
+    tell(a, part);
+}
+
+// A reader is made, opened at x, moved on twice, opened at y and moved on.
+fn visit(a: &[u8], x: usize, y: usize) {
+    let mut r = reader::new(a);
+    made(a, reader::record(r));
+    let opened = reader::open(&mut r, x);
+    told(a, opened, reader::record(r));
+    let moved = reader::advance(&mut r);
+    told(a, moved, reader::record(r));
+    let again = reader::advance(&mut r);
+    told(a, again, reader::record(r));
+    let back = reader::open(&mut r, y);
+    told(a, back, reader::record(r));
+    let on = reader::advance(&mut r);
+    told(a, on, reader::record(r));
+}
+
+fn visits(a: &[u8], x: usize, y: usize) {
+    say(b"\nopen ", x);
+    say(b" and ", y);
+    visit(a, x, y);
+}
+
+// The ends of an archive of n records, and the border of its first block.
 fn ends(a: &[u8], n: usize)
     requires { ⌜ n ≤ 45 ⌝ }
 {
-    walk(a, n);
-    walk(a, 18446744073709551615);
-    next(a, n);
-    next(a, n + 300);
-    next(a, 18446744073709551615);
-    after(a, n);
-    after(a, n + 1);
-}
-
-// The last two of n records.
-fn lasts(a: &[u8], n: usize)
-    requires { ⌜ (2 ≤ n) × (n ≤ 45) ⌝ }
-{
-    walk(a, n - 2);
-    next(a, n - 2);
-    next(a, n - 1);
-    after(a, n - 2);
-    after(a, n - 1);
-}
-
-fn read(a: &[u8], n: usize)
-    requires { ⌜ n ≤ 45 ⌝ }
-{
-    say(b"\nrecords ", n);
-    walk(a, 0);
-    after(a, 0);
+    visits(a, 0, n);
+    visits(a, n, 0);
+    visits(a, 18446744073709551615, n / 2);
+    visits(a, n / 2, 18446744073709551615);
+    visits(a, 13, 29);
     if 2 <= n {
-        lasts(a, n);
+        visits(a, n - 2, n - 1);
+        visits(a, n - 1, n - 2);
     }
-    ends(a, n);
-    io::write_all(1, b"\n");
+}
+
+// From every record of n on, and back by as many from the end.
+fn all(a: &[u8], n: usize) {
+    let mut k = 0;
+    while k < n {
+        let next = k + 1;
+        visits(a, k, n - next);
+        k = next;
+    }
 }
 
 fn run(n: usize)
@@ -208,7 +225,9 @@ fn run(n: usize)
 {
     let a = make(n);
     let len = (blocks(n) + 1) * 512;
-    read(&a[0..len], n);
+    say(b"\nrecords ", n);
+    ends(&a[0..len], n);
+    io::write_all(1, b"\n");
 }
 
 fn changed(bytes: [u8; 2048], p: usize, byte: u8) -> [u8; 2048]
@@ -219,30 +238,31 @@ fn changed(bytes: [u8; 2048], p: usize, byte: u8) -> [u8; 2048]
     a
 }
 
-// The first `len` bytes of an archive with byte p changed: no archive, yet every move is answered.
+// The first `len` bytes of an archive with byte p changed: no archive.
 fn spoilt(bytes: [u8; 2048], len: usize, p: usize, byte: u8)
     requires { ⌜ (len ≤ 2048) × (p < 2048) ⌝ }
 {
     let a = changed(bytes, p, byte);
     say(b"\nbytes ", len);
     say(b", byte ", p);
-    walk(&a[0..len], 0);
-    next(&a[0..len], 0);
-    next(&a[0..len], 14);
-    next(&a[0..len], 268);
-    next(&a[0..len], 269);
+    visits(&a[0..len], 0, 1);
+    visits(&a[0..len], 14, 18446744073709551615);
     io::write_all(1, b"\n");
 }
 
 fn main() {
     run(0);
     run(1);
+    run(2);
     run(14);
     run(15);
     run(16);
     run(30);
     run(31);
     let a = make(16);
+    io::write_all(1, b"\nall of 16");
+    all(&a[0..1536], 16);
+    io::write_all(1, b"\n");
     spoilt(a, 0, 0, 1);
     spoilt(a, 511, 0, 1);
     spoilt(a, 513, 0, 1);
@@ -255,4 +275,7 @@ fn main() {
     spoilt(a, 1536, 700, 9);
     spoilt(a, 1536, 1025, 0);
     spoilt(a, 1536, 1025, 255);
+    spoilt(a, 1536, 1048, 0);
+    spoilt(a, 1536, 1533, 1);
+    spoilt(a, 1536, 1534, 0);
 }

@@ -1,30 +1,27 @@
-use borrow.Author.Tests.{lt-ltb, le-ltb}
-use Rattle.reader.specs.Reading.{nextAt}
-use Prim.Native.Nat.{_+_, _≤_}
+use mathlib.Core.Path.{sym}
 use native.Mathlib.Omega.{arith}
+use Rattle.reader.proofs.Laws.{open-nothing, open-goes, open-stays}
 use borrow.Author.Needs.{needs}
 use Rattle.reader.proofs.next_at.Statement.{statement}
 use Rattle.reader.proofs.next_at.Tie as tie
 
+returns : tie.Need-returns
+returns c = sym (open-nothing _ _ _ (omega arith))
+
 count-requires : tie.Need-count-requires
 count-requires c κs = search needs
 
-returns : tie.Need-returns
-unfolding nextAt
-returns c =
-    let h : c .before .count .result ≤ c .before .before .before .args .at + 1 = omega arith in
-    rw (← c .before .count .ensures, le-ltb _ _ h)
+returns-2 : tie.Need-returns-2
+returns-2 c = sym (open-stays _ _ _ (c .before .before .if1 .left) (omega arith))
 
 add-next : tie.Need-add-next
 add-next c = search needs
 
-returns-2 : tie.Need-returns-2
-unfolding nextAt
-returns-2 c = rw (← c .before .before .count .ensures, le-ltb _ _ (c .if2 .taken))
-
 returns-3 : tie.Need-returns-3
-unfolding nextAt
-returns-3 c = rw (← c .before .before .count .ensures, lt-ltb _ _ (c .if2 .left))
+returns-3 c = sym (open-stays _ _ _ (c .before .before .before .if1 .left) (omega arith))
+
+returns-4 : tie.Need-returns-4
+returns-4 c = sym (open-goes _ _ _ (omega arith))
 
 pub next-at-spec : {M : Type 1} → statement M
-next-at-spec = tie.close (tie.spec count-requires returns add-next returns-2 returns-3)
+next-at-spec = tie.close (tie.spec returns count-requires returns-2 add-next returns-3 returns-4)

@@ -1,19 +1,21 @@
-use borrow.Author.Tests.{eq-eqb, ne-eqb}
-use Rattle.reader.specs.Reading.{openAt}
+use mathlib.Core.Path.{sym}
+use native.Mathlib.Omega.{arith}
+use Rattle.reader.proofs.Laws.{open-nothing, open-goes, open-stays}
 use borrow.Author.Needs.{needs}
 use Rattle.reader.proofs.open_at.Statement.{statement}
 use Rattle.reader.proofs.open_at.Tie as tie
 
-find-requires : tie.Need-find-requires
-find-requires c κs = search needs
-
 returns : tie.Need-returns
-unfolding openAt
-returns c = rw (← c .before .find .ensures, ne-eqb _ 0 (c .if1 .taken))
+returns c = sym (open-nothing _ _ _ (omega arith))
+
+count-requires : tie.Need-count-requires
+count-requires c κs = search needs
 
 returns-2 : tie.Need-returns-2
-unfolding openAt
-returns-2 c = rw (← c .before .find .ensures, eq-eqb _ 0 (c .if1 .left))
+returns-2 c = sym (open-stays _ _ _ (c .before .before .if1 .left) (omega arith))
+
+returns-3 : tie.Need-returns-3
+returns-3 c = sym (open-goes _ _ _ (omega arith))
 
 pub open-at-spec : {M : Type 1} → statement M
-open-at-spec = tie.close (tie.spec find-requires returns returns-2)
+open-at-spec = tie.close (tie.spec returns count-requires returns-2 returns-3)
