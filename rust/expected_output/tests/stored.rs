@@ -55,3 +55,8 @@ fn rules_check() {
 fn network_check() {
     compare("network_check", env!("CARGO_BIN_EXE_network_check"));
 }
+
+#[test]
+fn reader_check() {
+    compare("reader_check", env!("CARGO_BIN_EXE_reader_check"));
+}
