@@ -1,0 +1,104 @@
+use Prim.Native.Nat.{_-_, _≤_}
+use native.Mathlib.Omega.{arith}
+use denote.Ref.{now}
+use lib.ListN.{length}
+use Rattle.codec.proofs.RunLaws.{Scanned, scanned-ends, scanned-more, scanned-all}
+use Rattle.codec.proofs.zero_run.Statement.{statement}
+use Rattle.codec.proofs.zero_run.Tie as tie
+
+abbrev Inv-loop : tie.InvT-loop
+Inv-loop s lead n ok₀ i₀ ok i = (i ≤ length s) × Scanned s ok i
+
+abbrev μ-loop : tie.MeasureT-loop
+μ-loop s lead n ok₀ i₀ ok i = length s - i
+
+abbrev Inv-loop2 : tie.InvT-loop2
+Inv-loop2 s lead n ok₀ i₀ ok i = (i ≤ length s) × Scanned s ok i
+
+abbrev μ-loop2 : tie.MeasureT-loop2
+μ-loop2 s lead n ok₀ i₀ ok i = length s - i
+
+zeros-requires : tie.Need-zeros-requires Inv-loop μ-loop Inv-loop2 μ-loop2
+zeros-requires c κs = tt
+
+returns : tie.Need-returns Inv-loop μ-loop Inv-loop2 μ-loop2
+returns c = c .zeros .ensures
+
+line-requires : tie.Need-line-requires Inv-loop μ-loop Inv-loop2 μ-loop2
+line-requires c κs = omega arith
+
+line-requires-2 : tie.Need-line-requires-2 Inv-loop μ-loop Inv-loop2 μ-loop2
+line-requires-2 c κs = omega arith
+
+loop-holds : tie.Need-loop-holds Inv-loop μ-loop Inv-loop2 μ-loop2
+loop-holds c =
+    let a = c .before .before .before .before .args in
+    (omega arith, rw (c .before .line .ensures, c .line2 .ensures) (scanned-ends (now (a .s)) (a .lead) (omega arith) (omega arith)))
+
+sub-loop : tie.Need-sub-loop Inv-loop μ-loop Inv-loop2 μ-loop2
+sub-loop c = omega arith
+
+piece-requires : tie.Need-piece-requires Inv-loop μ-loop Inv-loop2 μ-loop2
+piece-requires c κs = omega arith
+
+add-i : tie.Need-add-i Inv-loop μ-loop Inv-loop2 μ-loop2
+add-i c = omega arith
+
+loop-less : tie.Need-loop-less Inv-loop μ-loop Inv-loop2 μ-loop2
+loop-less c = omega arith
+
+loop-again : tie.Need-loop-again Inv-loop μ-loop Inv-loop2 μ-loop2
+loop-again c =
+    let l = c .before .before .loop in
+    (omega arith, rw (c .piece .ensures) (scanned-more (now (c .before .before .before .before .before .before .before .args .s)) (l .ok) (l .i) 512 (l .inv .1)))
+
+loop2-holds : tie.Need-loop2-holds Inv-loop μ-loop Inv-loop2 μ-loop2
+loop2-holds c = c .before .loop .inv
+
+sub-loop2 : tie.Need-sub-loop2 Inv-loop μ-loop Inv-loop2 μ-loop2
+sub-loop2 c = omega arith
+
+line-requires-3 : tie.Need-line-requires-3 Inv-loop μ-loop Inv-loop2 μ-loop2
+line-requires-3 c κs = omega arith
+
+add-i-2 : tie.Need-add-i-2 Inv-loop μ-loop Inv-loop2 μ-loop2
+add-i-2 c = omega arith
+
+loop2-less : tie.Need-loop2-less Inv-loop μ-loop Inv-loop2 μ-loop2
+loop2-less c = omega arith
+
+loop2-again : tie.Need-loop2-again Inv-loop μ-loop Inv-loop2 μ-loop2
+loop2-again c =
+    let l = c .before .before .loop2 in
+    (omega arith, rw (c .line3 .ensures) (scanned-more (now (c .before .before .before .before .before .before .before .before .before .args .s)) (l .ok) (l .i) 32 (l .inv .1)))
+
+returns-2 : tie.Need-returns-2 Inv-loop μ-loop Inv-loop2 μ-loop2
+returns-2 c =
+    let l = c .before .loop2 in
+    scanned-all (now (c .before .before .before .before .before .before .before .before .args .s)) (l .ok) (l .i) (l .inv .1) (omega arith)
+
+pub zero-run-spec : {M : Type 1} → statement M
+zero-run-spec =
+    tie.close
+    (tie.spec
+    Inv-loop
+    μ-loop
+    Inv-loop2
+    μ-loop2
+    zeros-requires
+    returns
+    line-requires
+    line-requires-2
+    loop-holds
+    sub-loop
+    piece-requires
+    add-i
+    loop-less
+    loop-again
+    loop2-holds
+    sub-loop2
+    line-requires-3
+    add-i-2
+    loop2-less
+    loop2-again
+    returns-2)
