@@ -1,35 +1,36 @@
 // The test of the state area: it reads every byte once, and takes no copy.
 ghost use mathlib.Core.Path.{_≡_};
-ghost use mathlib.Core.Bool.{true};
-ghost use Prim.Native.Nat.{_≤_, _<_};
-ghost use lib.ListN.{length};
+ghost use mathlib.Core.Bool.{true, _&&_};
+ghost use Prim.Native.Nat.{_-_, _*_, _+_, _/_, _%_, _≤_, _<_};
+ghost use lib.ListN.{length, take, drop, getD};
+ghost use Rattle.codec.specs.Num.{numAt};
+ghost use Rattle.codec.specs.Every.{allZero};
 ghost use Rattle.reset.specs.Config.{wellMade, places};
-ghost use Rattle.rules.specs.Setup.{headerConfig};
-ghost use Rattle.area.specs.Layout.{stationsTest, linksTest, partsTest, test};
-use header::Header;
+ghost use Rattle.rules.specs.Setup.{blockConfig};
+ghost use Rattle.link.specs.Image.{itemsTest, sized};
+ghost use Rattle.area.specs.Layout.{linkBytes, stationsTest, linksTest, partsTest, test};
 
-// How many items the link from i to j can hold.
-fn places_of(limits: [[u8; 8]; 8], h: Header, i: usize, j: usize) -> u8
-    requires { ⌜ (i < 8) × (j < 8) × (wellMade (headerConfig h limits) ≡ true) ⌝ }
-    ensures { λ r. ⌜ (r ≡ places (headerConfig h limits) i j) × (r ≤ 34) ⌝ }
+// How many items link k can hold, by its limit in the header block.
+fn places_of(head: &[u8], k: usize) -> u8
+    requires { ⌜ (length (now head) ≡ 512) × (k < 64) × (wellMade (blockConfig (now head)) ≡ true) ⌝ }
+    ensures { λ r. ⌜ (r ≡ places (blockConfig (now (head .entry))) (k / 8) (k % 8)) × (r ≤ 34) ⌝ }
 {
-    let row = limits[i];
-    let limit = row[j];
+    let limit = head[32 + k];
     if limit == 0 {
         return 0;
     }
     limit + 2
 }
 
-fn stations_fit(a: &[u8], h: Header, limits: [[u8; 8]; 8]) -> bool
-    requires { ⌜ length (now a) ≡ 65536 ⌝ }
-    ensures { λ r. ⌜ r ≡ stationsTest (headerConfig h limits) (now (a .entry)) ⌝ }
+fn stations_fit(head: &[u8], a: &[u8]) -> bool
+    requires { ⌜ (length (now head) ≡ 512) × (length (now a) ≡ 65536) ⌝ }
+    ensures { λ r. ⌜ r ≡ stationsTest (blockConfig (now (head .entry))) (now (a .entry)) ⌝ }
 {
     let mut i = 0;
     while i < 8 {
         let o = 512 + i * 47;
         let e = o + 47;
-        if !station::test(h, limits, i, &a[o..e]) {
+        if !station::test(head, i, &a[o..e]) {
             return false;
         }
         i += 1;
@@ -37,35 +38,63 @@ fn stations_fit(a: &[u8], h: Header, limits: [[u8; 8]; 8]) -> bool
     true
 }
 
-fn links_fit(a: &[u8], h: Header, limits: [[u8; 8]; 8]) -> bool
-    requires { ⌜ (length (now a) ≡ 65536) × (wellMade (headerConfig h limits) ≡ true) ⌝ }
-    ensures { λ r. ⌜ r ≡ linksTest (headerConfig h limits) (now (a .entry)) ⌝ }
+// Zeros from one place to another. Most areas start at a multiple of 16, where 16 bytes are read fastest.
+fn blank_between(a: &[u8], from: usize, to: usize) -> bool
+    requires { ⌜ (from ≤ to) × (to ≤ length (now a)) ⌝ }
+    ensures { λ r. ⌜ r ≡ allZero (take (to - from) (drop from (now (a .entry)))) ⌝ }
 {
+    codec::zero_run(&a[from..to], 16 - from % 16)
+}
+
+// The items of link k, and the zeros before it from a place on.
+fn link_fits(head: &[u8], a: &[u8], n: u8, t: u16, k: usize, from: usize) -> bool
+    requires { ⌜ (length (now head) ≡ 512) × (length (now a) ≡ 65536) × (wellMade (blockConfig (now head)) ≡ true) × (k < 64) × (from ≤ 888 + k * 715) ⌝ }
+    ensures { λ r. ⌜ r ≡ (itemsTest (places (blockConfig (now (head .entry))) (k / 8) (k % 8)) (sized n t) (linkBytes (now (a .entry)) k) && allZero (take (888 + k * 715 - from) (drop from (now (a .entry))))) ⌝ }
+{
+    let o = 888 + k * 715;
+    let e = o + 715;
+    if !link::items_fit(places_of(head, k), n, t, &a[o..e]) {
+        return false;
+    }
+    blank_between(a, from, o)
+}
+
+// The links, and the zeros behind the last. Between the items of one and those of the next that has some is one run of
+// zeros, as no count in it is another number; the last reaches to the end.
+fn links_fit(head: &[u8], a: &[u8]) -> bool
+    requires { ⌜ (length (now head) ≡ 512) × (length (now a) ≡ 65536) × (wellMade (blockConfig (now head)) ≡ true) ⌝ }
+    ensures { λ r. ⌜ r ≡ (linksTest (blockConfig (now (head .entry))) (now (a .entry)) && allZero (drop 46648 (now (a .entry)))) ⌝ }
+{
+    let n = head[1];
+    let t = codec::get16(head, 2);
+    let mut from = 888;
     let mut k = 0;
     while k < 64 {
-        let most = places_of(limits, h, k / 8, k % 8);
         let o = 888 + k * 715;
-        let e = o + 715;
-        if !link::test(most, h.n, h.t, &a[o..e]) {
-            return false;
+        let b = a[o];
+        if b != 0 {
+            if !link_fits(head, a, n, t, k, from) {
+                return false;
+            }
+            from = o + (1 + (b as usize) * 21);
         }
         k += 1;
     }
-    true
+    blank_between(a, from, 65536)
 }
 
 // The parts behind a header block that is well made.
-fn parts_fit(a: &[u8], h: Header, limits: [[u8; 8]; 8]) -> bool
-    requires { ⌜ (length (now a) ≡ 65536) × (wellMade (headerConfig h limits) ≡ true) ⌝ }
-    ensures { λ r. ⌜ r ≡ partsTest (headerConfig h limits) (now (a .entry)) ⌝ }
+fn parts_fit(head: &[u8], a: &[u8]) -> bool
+    requires { ⌜ (length (now head) ≡ 512) × (length (now a) ≡ 65536) × (wellMade (blockConfig (now head)) ≡ true) ⌝ }
+    ensures { λ r. ⌜ r ≡ partsTest (blockConfig (now (head .entry))) (now (a .entry)) ⌝ }
 {
-    if !rules::setup_fits(h, limits) {
+    if !rules::setup_fits(header::load(head), header::load_limits(head)) {
         return false;
     }
-    if !stations_fit(a, h, limits) {
+    if !stations_fit(head, a) {
         return false;
     }
-    links_fit(a, h, limits) & codec::zeros(&a[46648..65536])
+    links_fit(head, a)
 }
 
 // The area is the image of a well-formed state.
@@ -79,5 +108,5 @@ pub fn well_formed(a: &[u8]) -> bool
     if !header::well_made(head) {
         return false;
     }
-    parts_fit(a, header::load(head), header::load_limits(head))
+    parts_fit(head, a)
 }

@@ -12,13 +12,13 @@ use borrow.Author.Tests.{eqb-true, leb-true, le-leb}
 use Rattle.codec.specs.Num.{AreBytes, bytesOf, numAt, numsOf, numsAt}
 use Rattle.codec.specs.Rows.{rows, upto}
 use Rattle.codec.specs.Splice.{splice}
-use Rattle.codec.specs.Every.{blank, every, allZero}
+use Rattle.codec.specs.Every.{blank, every, total, allZero}
 use Rattle.codec.proofs.NumLaws.{below-of, of-below}
 use Rattle.codec.proofs.Has.{has-last, has-more, has-num, has-nums, num-below, nums-below}
 use Rattle.codec.proofs.Fronts.{front-nums, front-num, front-byte, front-none, front-all, bytes-take, bytes-drop}
 use Rattle.codec.proofs.SpliceLaws.{drop-past}
 use Rattle.codec.proofs.Stride.{rows-length, rows-append, row-at, rows-made, upto-length, upto-at, upto-is}
-use Rattle.codec.proofs.EveryLaws.{both, join, every-at, every-of, total-zero, zeros-blank}
+use Rattle.codec.proofs.EveryLaws.{both, join, every-none, every-at, every-of, total-zero, zeros-blank}
 use Rattle.codec.proofs.BlankLaws.{blank-length, blank-append, blank-drop}
 use Rattle.reset.specs.Reach.{limit, linked}
 use Rattle.reset.specs.Config.{Config, isStation, neighbours, places, wellMade}
@@ -26,7 +26,7 @@ use Rattle.reset.specs.ConfigLaws.{shape, linked-small}
 use Rattle.reset.specs.Clock.{vector}
 use Rattle.reset.specs.State.{Item, message, resetReq, resetDone}
 use Rattle.reset.specs.WellFormed.{countFits, countsFit, itemFits, itemFitsAt, linkFits}
-use Rattle.link.specs.Image.{Queue, itemOf, imageItem, parseItem, itemTest, imageLink, placeAt, itemAt, parseLink, itemTestAt, queueTest, linkTest, sized, RangedItem, RangedLink}
+use Rattle.link.specs.Image.{Queue, itemOf, imageItem, parseItem, itemTest, imageLink, placeAt, itemAt, parseLink, itemTestAt, itemsTest, queueTest, linkTest, sized, RangedItem, RangedLink}
 
 -- ---- an item
 pub item-length : (x : Item vector) → length (imageItem x) ≡ 21
@@ -233,14 +233,23 @@ unfolding parseLink
 parse-item l k h = upto-at (getD l 0 0) (itemAt l) k resetReq h
 
 -- ---- what passes the test
--- the test reads n and t alone of a configuration
-pub test-sized : (m : ℕ) (c : Config) (l : List ℕ) → queueTest m (sized (c .n) (c .t)) l ≡ queueTest m c l
-unfolding queueTest itemTest countsFit isStation
-test-sized m c l = refl
+-- the items, of a configuration by n and t alone, and the zeros behind them
+pub link-parts : (c : Config) (i j m : ℕ) (l : List ℕ) → m ≡ places c i j
+    → linkTest c i j l ≡ (itemsTest m (sized (c .n) (c .t)) l && allZero (drop (1 + getD l 0 0 * 21) l))
+unfolding linkTest queueTest itemsTest itemTest countsFit isStation
+link-parts c i j m l e = rw e (and-assoc (leb (getD l 0 0) (places c i j)) (every (getD l 0 0) (itemTestAt c l)) (allZero (drop (1 + getD l 0 0 * 21) l)))
+  where
+    and-assoc : (a b d : Bool) → (a && (b && d)) ≡ (a && b && d)
+    and-assoc true b d = refl
+    and-assoc false b d = refl
 
-pub test-is : (c : Config) (i j m n t : ℕ) (l : List ℕ) → m ≡ places c i j → n ≡ c .n → t ≡ c .t → queueTest m (sized n t) l ≡ linkTest c i j l
-unfolding linkTest
-test-is c i j m n t l e f g = rw (e, f, g) (test-sized (places c i j) c l)
+-- of no item all is zero, the count too
+pub link-idle : (c : Config) (i j : ℕ) (l : List ℕ) → 0 < length l → getD l 0 0 ≡ 0 → linkTest c i j l ≡ allZero l
+unfolding linkTest queueTest total
+link-idle c i j l h e =
+    let f : total l ≡ getD l 0 0 + total (drop 1 l) = ap total (drop-cons l 0 0 h) in
+    let g : total l ≡ total (drop 1 l) = omega arith in
+    rw (e, le-leb 0 (places c i j) (omega arith), every-none, g)
 
 module _ (m : ℕ) (c : Config) (l : List ℕ) (w : queueTest m c l ≡ true) where
   -- the test, part by part

@@ -64,7 +64,11 @@ parseLink l = upto (getD l 0 0) (itemAt l)
 abbrev pub itemTestAt : Config → List ℕ → ℕ → Bool
 itemTestAt c l k = itemTest c (placeAt l k)
 
--- 715 bytes hold at most m items, each in range, and zeros after the last
+-- 715 bytes hold at most m items, each in range
+unfoldable pub itemsTest : ℕ → Config → List ℕ → Bool
+itemsTest m c l = leb (getD l 0 0) m && every (getD l 0 0) (itemTestAt c l)
+
+-- and zeros after the last
 unfoldable pub queueTest : ℕ → Config → List ℕ → Bool
 queueTest m c l = leb (getD l 0 0) m && (every (getD l 0 0) (itemTestAt c l) && allZero (drop (1 + getD l 0 0 * 21) l))
 

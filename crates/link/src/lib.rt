@@ -4,10 +4,10 @@ ghost use mathlib.Core.List.{[], _∷_, _++_};
 ghost use Prim.Native.Nat.{_+_, _-_, _<_, _≤_};
 ghost use lib.ListN.{length, drop, getD};
 ghost use Rattle.codec.specs.Num.{bytesOf, numsOf};
-ghost use Rattle.codec.specs.Every.{blank, allZero};
+ghost use Rattle.codec.specs.Every.{blank};
 ghost use Rattle.reset.specs.Clock.{vector};
 ghost use Rattle.reset.specs.State as state;
-ghost use Rattle.link.specs.Image.{Queue, itemView, imageItem, parseItem, itemTest, imageLink, itemAt, queueTest, sized};
+ghost use Rattle.link.specs.Image.{Queue, itemView, imageItem, parseItem, itemTest, imageLink, itemAt, itemsTest, sized};
 
 // Kind 1 is a message, 2 reset_req, 3 reset_done; the register number and the counts are a message's.
 pub struct Item {
@@ -66,23 +66,12 @@ fn item_test(n: u8, t: u16, part: &[u8]) -> bool
     ((kind == 2) | (kind == 3)) & codec::zeros(&part[1..])
 }
 
-// Behind the count all is zero. A range of fixed length is read fastest, and most links are empty.
-fn empty(part: &[u8]) -> bool
-    requires { ⌜ length (now part) ≡ 715 ⌝ }
-    ensures { λ r. ⌜ r ≡ allZero (drop 1 (now (part .entry))) ⌝ }
-{
-    codec::zeros(&part[1..715])
-}
-
-// The part is a queue of at most `places` items in range.
-pub fn test(places: u8, n: u8, t: u16, part: &[u8]) -> bool
+// The part holds at most `places` items, each in range. What stands behind them is not looked at.
+pub fn items_fit(places: u8, n: u8, t: u16, part: &[u8]) -> bool
     requires { ⌜ (length (now part) ≡ 715) × (places ≤ 34) ⌝ }
-    ensures { λ r. ⌜ r ≡ queueTest places (sized n t) (now (part .entry)) ⌝ }
+    ensures { λ r. ⌜ r ≡ itemsTest places (sized n t) (now (part .entry)) ⌝ }
 {
     let b = part[0];
-    if b == 0 {
-        return empty(part);
-    }
     if places < b {
         return false;
     }
@@ -96,8 +85,7 @@ pub fn test(places: u8, n: u8, t: u16, part: &[u8]) -> bool
         }
         k += 1;
     }
-    let z = 1 + count * 21;
-    codec::zeros(&part[z..])
+    true
 }
 
 // The first item, which stays.

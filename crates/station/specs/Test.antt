@@ -1,33 +1,25 @@
 -- The test of a station's 47 bytes. Assumes nothing.
 use Prim.Native.Nat.{ℕ}
 use mathlib.Core.List.{List}
-use mathlib.Core.Bool.{Bool, false, not, _&&_, _||_}
+use mathlib.Core.Bool.{Bool, cond, _&&_}
 use lib.Dec.{eqb, leb}
-use lib.ListN.{length, getD}
+use lib.ListN.{getD}
 use Rattle.codec.specs.Every.{every}
-use Rattle.clock.specs.Range.{countsFit}
 use Rattle.reset.specs.Config.{Config}
 use Rattle.reset.specs.WellFormed.{stationFits}
 use Rattle.station.specs.Image.{byteAt, parseStation}
 
--- ---- the tests of a record's lists
--- eight counts, each at most b, and 0 for stations n and above
-abbrev pub countsWithin : ℕ → ℕ → List ℕ → Bool
-countsWithin n b v = eqb (length v) 8 && countsFit n b v
+-- ---- the tests of a record's bytes, by a row of limits from o on in a header block
+-- a number of messages sent within the limit
+abbrev pub sentWithinAt : List ℕ → ℕ → List ℕ → ℕ → Bool
+sentWithinAt head o l j = leb (byteAt l 16 j) (byteAt head o j)
 
--- eight numbers of messages sent, each within the limit in its row
-abbrev pub sentWithinAt : List ℕ → List ℕ → ℕ → Bool
-sentWithinAt row sent j = leb (getD sent j 0) (getD row j 0)
+-- marks of each kind that are 0 or 1, and 0 where the limit is
+abbrev pub markBound : ℕ → ℕ
+markBound limit = cond (eqb limit 0) 0 1
 
-abbrev pub sentWithin : List ℕ → List ℕ → Bool
-sentWithin row sent = eqb (length sent) 8 && every 8 (sentWithinAt row sent)
-
--- eight marks of each kind, none where the limit in the row is 0
-abbrev pub marksWithinAt : List ℕ → List Bool → List Bool → ℕ → Bool
-marksWithinAt row reqs dones j = not (eqb (getD row j 0) 0) || (not (getD reqs j false) && not (getD dones j false))
-
-abbrev pub marksWithin : List ℕ → List Bool → List Bool → Bool
-marksWithin row reqs dones = eqb (length reqs) 8 && (eqb (length dones) 8 && every 8 (marksWithinAt row reqs dones))
+abbrev pub marksWithinAt : List ℕ → ℕ → List ℕ → ℕ → Bool
+marksWithinAt head o l j = leb (byteAt l 24 j) (markBound (byteAt head o j)) && leb (byteAt l 32 j) (markBound (byteAt head o j))
 
 -- ---- the test of the bytes
 -- mark bytes are at most 1, and the mode byte is at most 2

@@ -6,12 +6,13 @@ ghost use lib.ListN.{length};
 ghost use Rattle.codec.specs.Splice.{splice};
 ghost use Rattle.codec.specs.Rows.{upto};
 ghost use Rattle.reset.specs.Steps.{isNormal};
-ghost use Rattle.reset.specs.WellFormed.{stationFits};
-ghost use Rattle.rules.specs.Setup.{headerConfig};
-ghost use Rattle.station.specs.Test.{countsWithin, sentWithin, marksWithin, stationBytesFit, stationTest};
+ghost use Rattle.codec.specs.Every.{every};
+ghost use Rattle.codec.specs.Num.{numsAt};
+ghost use Rattle.clock.specs.Range.{countsFit};
+ghost use Rattle.rules.specs.Setup.{blockConfig};
+ghost use Rattle.station.specs.Test.{markBound, sentWithinAt, marksWithinAt, stationTest};
 ghost use Rattle.station.specs.View.{modeView, stationView};
 ghost use Rattle.station.specs.Image.{byteAt, markAt, modeOf, modeByte, markByte, sentOf, marksOf, parseStation, imageStation};
-use header::Header;
 
 pub enum Mode {
     Normal,
@@ -153,37 +154,30 @@ pub fn store(part: &mut [u8], s: Station)
     part[46] = mode;
 }
 
-// Every mark is 0 or 1, and the mode one of the three.
-fn bytes_fit(part: &[u8]) -> bool
-    requires { ⌜ length (now part) ≡ 47 ⌝ }
-    ensures { λ r. ⌜ r ≡ stationBytesFit (now (part .entry)) ⌝ }
-{
-    let mut ok = true;
-    let mut j = 0;
-    while j < 16 {
-        ok = ok & (part[24 + j] <= 1);
-        j += 1;
-    }
-    (part[46] <= 2) & ok
-}
-
 fn wide(x: u8) -> usize
     ensures { λ r. ⌜ r ≡ x ⌝ }
 {
     x as usize
 }
 
-// The bound b for a station of the network, else 0.
-fn count_bound(known: bool, b: u16) -> u16
-    ensures { λ r. ⌜ r ≡ cond known b 0 ⌝ }
+// The greatest mode and phase of a station of the network; of any other both are 0.
+fn mode_bound(known: bool) -> u8
+    ensures { λ r. ⌜ r ≡ cond known 2 0 ⌝ }
 {
-    if known { b } else { 0 }
+    if known { 2 } else { 0 }
 }
 
 fn phase_bound(known: bool) -> u32
     ensures { λ r. ⌜ r ≡ cond known 999999 0 ⌝ }
 {
     if known { 999999 } else { 0 }
+}
+
+// The greatest byte of a mark, by the limit: nothing is marked where there is no link.
+fn mark_bound(limit: u8) -> u8
+    ensures { λ r. ⌜ r ≡ markBound limit ⌝ }
+{
+    if limit == 0 { 0 } else { 1 }
 }
 
 pub fn is_normal(m: Mode) -> bool
@@ -196,63 +190,59 @@ pub fn is_normal(m: Mode) -> bool
     }
 }
 
-// Each count is at most b, and 0 for stations n and above.
-fn counts_fit(n: u8, b: u16, counts: [u16; 8]) -> bool
-    ensures { λ r. ⌜ r ≡ countsWithin n b counts ⌝ }
+// Each count is at most t, and 0 for stations n and above; all are 0 in the record of such a station. With a branch, the
+// bounds are the same for every station, and are made once.
+fn counts_fit(known: bool, n: u8, t: u16, part: &[u8]) -> bool
+    requires { ⌜ length (now part) ≡ 47 ⌝ }
+    ensures { λ r. ⌜ r ≡ countsFit n (cond known t 0) (numsAt 2 8 (now (part .entry)) 0) ⌝ }
 {
-    clock::counts_fit(counts, n, b)
+    let counts = codec::get_row(part, 0);
+    if known {
+        return clock::counts_fit(counts, n, t);
+    }
+    clock::counts_fit(counts, n, 0)
 }
 
-// Messages sent within the limits of a row.
-fn sent_fit(row: [u8; 8], sent: [u8; 8]) -> bool
-    ensures { λ r. ⌜ r ≡ sentWithin row sent ⌝ }
+// Messages sent within the limits of a row, which stands at o.
+fn sent_fit(head: &[u8], o: usize, part: &[u8]) -> bool
+    requires { ⌜ (o + 8 ≤ length (now head)) × (length (now part) ≡ 47) ⌝ }
+    ensures { λ r. ⌜ r ≡ every 8 (sentWithinAt (now (head .entry)) o (now (part .entry))) ⌝ }
 {
     let mut ok = true;
     let mut j = 0;
     while j < 8 {
-        ok = ok & (sent[j] <= row[j]);
+        ok = ok & (part[16 + j] <= head[o + j]);
         j += 1;
     }
     ok
 }
 
-// Nothing marked where there is no link.
-fn marks_fit(row: [u8; 8], reqs: [bool; 8], dones: [bool; 8]) -> bool
-    ensures { λ r. ⌜ r ≡ marksWithin row reqs dones ⌝ }
+// Every mark is 0 or 1, and 0 where the row has no link.
+fn marks_fit(head: &[u8], o: usize, part: &[u8]) -> bool
+    requires { ⌜ (o + 8 ≤ length (now head)) × (length (now part) ≡ 47) ⌝ }
+    ensures { λ r. ⌜ r ≡ every 8 (marksWithinAt (now (head .entry)) o (now (part .entry))) ⌝ }
 {
     let mut ok = true;
     let mut j = 0;
     while j < 8 {
-        ok = ok & ((row[j] != 0) | (!reqs[j] & !dones[j]));
+        let most = mark_bound(head[o + j]);
+        ok = ok & ((part[24 + j] <= most) & (part[32 + j] <= most));
         j += 1;
     }
     ok
 }
 
-// Every field of station i's record is in its range.
-fn fits(h: Header, limits: [[u8; 8]; 8], i: usize, s: Station) -> bool
-    requires { ⌜ i < 8 ⌝ }
-    ensures { λ r. ⌜ r ≡ stationFits (headerConfig h limits) i (stationView s) ⌝ }
+// The bytes of a part are the image of a record of station i in its range, by the header block.
+pub fn test(head: &[u8], i: usize, part: &[u8]) -> bool
+    requires { ⌜ (length (now head) ≡ 512) × (i < 8) × (length (now part) ≡ 47) ⌝ }
+    ensures { λ r. ⌜ r ≡ stationTest (blockConfig (now (head .entry))) i (now (part .entry)) ⌝ }
 {
-    let n = h.n;
+    let n = head[1];
     let known = i < wide(n);
-    let allowances = h.allowances;
-    let row = limits[i];
-    let counts = s.counts;
-    let sent = s.sent;
-    let reqs = s.reqs;
-    let dones = s.dones;
-    let mode = s.mode;
-    counts_fit(n, count_bound(known, h.t), counts)
-        & ((known | is_normal(mode))
-            & ((s.phase <= phase_bound(known))
-                & ((s.own <= allowances[i]) & (sent_fit(row, sent) & marks_fit(row, reqs, dones)))))
-}
-
-// The bytes of a part are the image of a record of station i in its range.
-pub fn test(h: Header, limits: [[u8; 8]; 8], i: usize, part: &[u8]) -> bool
-    requires { ⌜ (i < 8) × (length (now part) ≡ 47) ⌝ }
-    ensures { λ r. ⌜ r ≡ stationTest (headerConfig h limits) i (now (part .entry)) ⌝ }
-{
-    bytes_fit(part) & fits(h, limits, i, load(part))
+    let o = 32 + i * 8;
+    counts_fit(known, n, codec::get16(head, 2), part)
+        & ((part[46] <= mode_bound(known))
+            & ((codec::get32(part, 40) <= phase_bound(known))
+                & ((codec::get16(part, 44) <= codec::get16(head, 16 + i * 2))
+                    & (sent_fit(head, o, part) & marks_fit(head, o, part)))))
 }

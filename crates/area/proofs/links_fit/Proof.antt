@@ -1,30 +1,30 @@
-use Prim.Native.Nat.{_+_, _*_, _-_, _/_, _%_, _≤_}
-use mathlib.Core.Path.{_≡_, refl, _∙_, sym}
+use Prim.Native.Nat.{_+_, _*_, _-_, _≤_, _<_}
+use mathlib.Core.Path.{_≡_, _∙_, sym}
+use mathlib.Core.Logic.{⊎-elim}
 use native.Mathlib.Omega.{arith}
 use borrow.Author.Tests.{not-true, not-false}
-use Rattle.codec.proofs.EveryLaws.{every-none, every-more, every-fails}
-use mathlib.Core.Bool.{true}
 use denote.Ref.{now}
-use lib.ListN.{length-take, length-drop}
-use Rattle.codec.specs.Every.{every}
-use Rattle.rules.specs.Setup.{headerConfig}
-use Rattle.link.specs.Image.{linkTest}
-use Rattle.link.proofs.Laws.{test-is}
-use Rattle.area.specs.Layout.{linkBytes, linkTestAt, linksTest}
+use lib.ListN.{getD}
+use Rattle.rules.specs.Setup.{blockConfig}
+use Rattle.link.proofs.Laws.{places-most}
+use Rattle.area.proofs.Runs.{Read, read-none, idle-turn, busy-turn, stop-turn, runs-end}
 use Rattle.area.proofs.links_fit.Statement.{statement}
 use Rattle.area.proofs.links_fit.Tie as tie
 
 abbrev Inv-loop : tie.InvT-loop
-Inv-loop a h limits k₀ k = (k ≤ 64) × (every k (linkTestAt (headerConfig h limits) a) ≡ true)
+Inv-loop head a n t from₀ k₀ from k = (k ≤ 64) × Read (blockConfig head) a k from
 
 abbrev μ-loop : tie.MeasureT-loop
-μ-loop a h limits k₀ k = 64 - k
+μ-loop head a n t from₀ k₀ from k = 64 - k
+
+shared-slice-read-n : tie.Need-shared-slice-read-n Inv-loop μ-loop
+shared-slice-read-n c = omega arith
+
+get16-requires : tie.Need-get16-requires Inv-loop μ-loop
+get16-requires c κs = omega arith
 
 loop-holds : tie.Need-loop-holds Inv-loop μ-loop
-loop-holds c = (omega arith, every-none _)
-
-places-of-requires : tie.Need-places-of-requires Inv-loop μ-loop
-places-of-requires c κs = (omega arith, omega arith, c .before .before .before .pre .1)
+loop-holds c = (omega arith, read-none _ _)
 
 mul-o : tie.Need-mul-o Inv-loop μ-loop
 mul-o c = omega arith
@@ -32,31 +32,36 @@ mul-o c = omega arith
 add-o : tie.Need-add-o Inv-loop μ-loop
 add-o c = omega arith
 
-add-e : tie.Need-add-e Inv-loop μ-loop
-add-e c = omega arith
+shared-slice-read-b : tie.Need-shared-slice-read-b Inv-loop μ-loop
+shared-slice-read-b c = omega arith
 
-sub-test : tie.Need-sub-test Inv-loop μ-loop
-sub-test c = omega arith
-
-part-test-start : tie.Need-part-test-start Inv-loop μ-loop
-part-test-start c = omega arith
-
-part-test-end : tie.Need-part-test-end Inv-loop μ-loop
-part-test-end c = omega arith
-
-test-requires : tie.Need-test-requires Inv-loop μ-loop
-test-requires c κs = (simp (length-take, length-drop) (omega arith), c .before .places-of .ensures .1)
+link-fits-requires : tie.Need-link-fits-requires Inv-loop μ-loop
+link-fits-requires c κs =
+    let l = c .before .before .before .loop in
+    (omega arith, omega arith, c .before .before .before .before .before .before .before .before .pre .2, omega arith, l .inv .1 .0)
 
 returns : tie.Need-returns Inv-loop μ-loop
-unfolding linksTest linkBytes
 returns c =
-    let k = c .before .before .before .before .before .loop .k in
-    let g = c .before .before .before .before .before .before .before .args in
-    let d = headerConfig (g .h) (g .limits) in
-    let e : 888 + k * 715 + 715 - (888 + k * 715) ≡ 715 = omega arith in
-    let q : linkTest d (k / 8) (k % 8) (linkBytes (now (g .a)) k) ≡ c .before .test .result =
-    sym (test-is d (k / 8) (k % 8) _ _ _ (linkBytes (now (g .a)) k) (c .before .before .before .places-of .ensures .0) refl refl) ∙ sym (rw e at (c .before .test .ensures)) in
-    sym (every-fails 64 (linkTestAt d (now (g .a))) k (omega arith) (q ∙ not-true _ (c .if1 .taken)))
+    let l = c .before .before .before .before .before in
+    let g = l .before .before .before .before .before .args in
+    let w = rw (l .before .get16 .ensures) at (sym (c .before .link-fits .ensures) ∙ not-true _ (c .if2 .taken)) in
+    sym (stop-turn (blockConfig (now (g .head))) (now (g .a)) (omega arith) (l .loop .k) (l .loop .from) (omega arith) (l .loop .inv .1) w)
+
+-- a count is a byte
+count-below : (c : tie.After-shared-slice-known4 Inv-loop μ-loop) → getD (now (c .before .before .before .before .before .before .before .args .a)) (888 + c .before .before .loop .k * 715) 0 < 256
+count-below c = omega (arith, c .shared-slice-known4 .given (888 + c .before .before .loop .k * 715))
+
+cast-from : tie.Need-cast-from Inv-loop μ-loop
+cast-from c = omega (arith, count-below (c .before .before .before))
+
+mul-from : tie.Need-mul-from Inv-loop μ-loop
+mul-from c = omega (arith, count-below (c .before .before .before))
+
+add-from : tie.Need-add-from Inv-loop μ-loop
+add-from c = omega (arith, count-below (c .before .before .before))
+
+add-from-2 : tie.Need-add-from-2 Inv-loop μ-loop
+add-from-2 c = omega (arith, count-below (c .before .before .before))
 
 add-k : tie.Need-add-k Inv-loop μ-loop
 add-k c = omega arith
@@ -65,19 +70,30 @@ loop-less : tie.Need-loop-less Inv-loop μ-loop
 loop-less c = omega arith
 
 loop-again : tie.Need-loop-again Inv-loop μ-loop
-unfolding linkBytes
 loop-again c =
-    let k = c .before .before .before .before .before .loop .k in
-    let g = c .before .before .before .before .before .before .before .args in
-    let d = headerConfig (g .h) (g .limits) in
-    let e : 888 + k * 715 + 715 - (888 + k * 715) ≡ 715 = omega arith in
-    let q : linkTest d (k / 8) (k % 8) (linkBytes (now (g .a)) k) ≡ c .before .test .result =
-    sym (test-is d (k / 8) (k % 8) _ _ _ (linkBytes (now (g .a)) k) (c .before .before .before .places-of .ensures .0) refl refl) ∙ sym (rw e at (c .before .test .ensures)) in
-    (omega arith, every-more k (linkTestAt d (now (g .a))) (c .before .before .before .before .before .loop .inv .1) (q ∙ not-false _ (c .if1 .left)))
+    let l = c .before .before .before in
+    let s = l .before .before .before .before .before in
+    let d = blockConfig (now (s .args .head)) in
+    let a = now (s .args .a) in (
+      omega arith,
+      ⊎-elim
+          (λ w.
+          rw (w .3)
+          (busy-turn d a (omega arith) (l .loop .k) (l .loop .from) (omega arith) (l .loop .inv .1) (places-most d (s .pre .2) _ _)
+          (rw (l .before .get16 .ensures) at (sym (w .1 .ensures) ∙ not-false _ (w .2 .left)))))
+          (λ w. rw (w .1) (idle-turn d a (omega arith) (l .loop .k) (l .loop .from) (omega arith) (l .loop .inv .1) (w .0 .left)))
+          (c .if1 .came),
+    )
+
+blank-between-requires : tie.Need-blank-between-requires Inv-loop μ-loop
+blank-between-requires c κs = (let h = c .before .loop .inv .1 .0 in omega arith, omega arith)
 
 returns-2 : tie.Need-returns-2 Inv-loop μ-loop
-unfolding linksTest
-returns-2 c = let e : c .before .loop .k ≡ 64 = omega arith in sym (rw e at (c .before .loop .inv .1))
+returns-2 c =
+    let l = c .before .before in
+    let g = l .before .before .before .before .before .args in
+    let e : l .loop .k ≡ 64 = omega arith in
+    c .blank-between .ensures ∙ sym (runs-end (blockConfig (now (g .head))) (now (g .a)) (omega arith) (l .loop .from) (rw e at (l .loop .inv .1)))
 
 pub links-fit-spec : {M : Type 1} → statement M
 links-fit-spec =
@@ -85,17 +101,20 @@ links-fit-spec =
     (tie.spec
     Inv-loop
     μ-loop
+    shared-slice-read-n
+    get16-requires
     loop-holds
-    places-of-requires
     mul-o
     add-o
-    add-e
-    sub-test
-    part-test-start
-    part-test-end
-    test-requires
+    shared-slice-read-b
+    link-fits-requires
     returns
+    cast-from
+    mul-from
+    add-from
+    add-from-2
     add-k
     loop-less
     loop-again
+    blank-between-requires
     returns-2)

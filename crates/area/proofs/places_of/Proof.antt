@@ -1,48 +1,54 @@
+use Prim.Native.Nat.{ℕ, _+_, _*_, _/_, _%_, _≤_, _<_}
+use mathlib.Core.Path.{_≡_, _∙_, sym, ap}
 use mathlib.Core.List.{List, []}
 use mathlib.Core.Bool.{true}
-use lib.ListN.{getD}
-use Rattle.header.specs.declared.Header.{Header}
-use Rattle.rules.specs.Setup.{headerConfig}
-use Prim.Native.Nat.{ℕ, _-_, _≤_, _<_}
-use mathlib.Core.Path.{_≡_}
 use native.Mathlib.Omega.{arith}
+use denote.Ref.{now}
+use lib.ListN.{getD}
 use borrow.Author.Tests.{eq-eqb, ne-eqb}
+use Rattle.header.specs.Header.{tableAt}
+use Rattle.header.proofs.Laws.{table-at}
 use Rattle.reset.specs.Reach.{limit, linked}
 use Rattle.reset.specs.Config.{neighbours, places, wellMade}
 use Rattle.reset.specs.ConfigLaws.{shape}
+use Rattle.rules.specs.Setup.{blockConfig}
 use borrow.Author.Needs.{needs}
 use Rattle.area.proofs.places_of.Statement.{statement}
 use Rattle.area.proofs.places_of.Tie as tie
 
--- a limit of a well-made configuration
-small : (h : Header) (m : List (List ℕ)) (i j : ℕ) → i < 8 → j < 8 → wellMade (headerConfig h m) ≡ true → getD (getD m i []) j 0 ≤ 32
+-- limit k of the table
+limit-at : (l : List ℕ) (k : ℕ) → k < 64 → limit (tableAt 8 l 32) (k / 8) (k % 8) ≡ getD l (32 + k) 0
 unfolding limit
-small h m i j il jl w = shape (headerConfig h m) w .limit32 i j il jl
+limit-at l k h =
+    let e : 32 + (k / 8 * 8 + k % 8) ≡ 32 + k = omega arith in
+    table-at 8 l 32 (k / 8) (k % 8) (omega arith) (omega arith) ∙ ap (λ (i : ℕ). getD l i 0) e
 
-mul-row : tie.Need-mul-row
-mul-row c = search needs
+small : (l : List ℕ) (k : ℕ) → k < 64 → wellMade (blockConfig l) ≡ true → getD l (32 + k) 0 ≤ 32
+small l k h w = rw (← limit-at l k h) (shape (blockConfig l) w .limit32 (k / 8) (k % 8) (omega arith) (omega arith))
 
-array-copy-out-row : tie.Need-array-copy-out-row
-array-copy-out-row c = search needs
+add-limit : tie.Need-add-limit
+add-limit c = search needs
 
-array-read-limit : tie.Need-array-read-limit
-array-read-limit c = search needs
+shared-slice-read-limit : tie.Need-shared-slice-read-limit
+shared-slice-read-limit c = search needs
 
 returns : tie.Need-returns
-unfolding places neighbours linked limit
-returns c = (rw (eq-eqb _ 0 (c .if1 .taken)), omega arith)
+unfolding places neighbours linked
+returns c =
+    let a = c .before .before .args in
+    (rw (limit-at (now (a .head)) (a .k) (omega arith), eq-eqb _ 0 (c .if1 .taken)), omega arith)
 
 add-result : tie.Need-add-result
 add-result c =
     let a = c .before .before .args in
-    omega (arith, small (a .h) (a .t1) (a .i) (a .j) (c .before .before .pre .0) (c .before .before .pre .1) (c .before .before .pre .2))
+    omega (arith, small (now (a .head)) (a .k) (omega arith) (c .before .before .pre .2))
 
 returns-2 : tie.Need-returns-2
-unfolding places neighbours linked limit
+unfolding places neighbours linked
 returns-2 c =
     let a = c .before .before .args in
-    (rw (ne-eqb _ 0 (c .if1 .left)), omega (arith, small (a .h) (a .t1) (a .i) (a .j) (c .before .before .pre .0) (c .before .before .pre .1) (c .before .before .pre .2)))
+    (rw (limit-at (now (a .head)) (a .k) (omega arith), ne-eqb _ 0 (c .if1 .left)), omega (arith, small (now (a .head)) (a .k) (omega arith) (c .before .before .pre .2)))
 
 pub places-of-spec : {M : Type 1} → statement M
 places-of-spec =
-    tie.close (tie.spec mul-row array-copy-out-row array-read-limit returns add-result returns-2)
+    tie.close (tie.spec add-limit shared-slice-read-limit returns add-result returns-2)

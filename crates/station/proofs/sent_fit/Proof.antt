@@ -1,5 +1,3 @@
-use lib.ListN.{length}
-use borrow.Author.Tests.{eq-eqb}
 use Prim.Native.Nat.{_-_, _≤_}
 use mathlib.Core.Path.{_≡_, sym}
 use native.Mathlib.Omega.{arith}
@@ -12,19 +10,25 @@ use Rattle.station.proofs.sent_fit.Statement.{statement}
 use Rattle.station.proofs.sent_fit.Tie as tie
 
 abbrev Inv-loop : tie.InvT-loop
-Inv-loop row sent ok₀ j₀ ok j = (j ≤ 8) × (ok ≡ every j (sentWithinAt row sent))
+Inv-loop head o part ok₀ j₀ ok j = (j ≤ 8) × (ok ≡ every j (sentWithinAt head o part))
 
 abbrev μ-loop : tie.MeasureT-loop
-μ-loop row sent ok₀ j₀ ok j = 8 - j
+μ-loop head o part ok₀ j₀ ok j = 8 - j
 
 loop-holds : tie.Need-loop-holds Inv-loop μ-loop
 loop-holds c = (omega arith, sym (every-none _))
 
-array-read-ok : tie.Need-array-read-ok Inv-loop μ-loop
-array-read-ok c = search needs
+add-ok : tie.Need-add-ok Inv-loop μ-loop
+add-ok c = search needs
 
-array-read-ok-2 : tie.Need-array-read-ok-2 Inv-loop μ-loop
-array-read-ok-2 c = search needs
+shared-slice-read-ok : tie.Need-shared-slice-read-ok Inv-loop μ-loop
+shared-slice-read-ok c = search needs
+
+add-ok-2 : tie.Need-add-ok-2 Inv-loop μ-loop
+add-ok-2 c = search needs
+
+shared-slice-read-ok-2 : tie.Need-shared-slice-read-ok-2 Inv-loop μ-loop
+shared-slice-read-ok-2 c = search needs
 
 add-j : tie.Need-add-j Inv-loop μ-loop
 add-j c = search needs
@@ -33,13 +37,10 @@ loop-less : tie.Need-loop-less Inv-loop μ-loop
 loop-less c = search needs
 
 loop-again : tie.Need-loop-again Inv-loop μ-loop
-loop-again c = (omega arith, rw (every-turn, c .before .loop .inv .1))
+loop-again c = (omega arith, rw (every-turn, c .before .before .before .loop .inv .1))
 
 returns : tie.Need-returns Inv-loop μ-loop
-returns c =
-    let e : c .before .loop .j ≡ 8 = omega arith in
-    let n0 : length (c .before .before .args .t2) ≡ 8 = omega arith in
-    rw (eq-eqb _ 8 n0) (rw e at (c .before .loop .inv .1))
+returns c = let e : c .before .loop .j ≡ 8 = omega arith in rw e at (c .before .loop .inv .1)
 
 pub sent-fit-spec : {M : Type 1} → statement M
 sent-fit-spec =
@@ -48,8 +49,10 @@ sent-fit-spec =
     Inv-loop
     μ-loop
     loop-holds
-    array-read-ok
-    array-read-ok-2
+    add-ok
+    shared-slice-read-ok
+    add-ok-2
+    shared-slice-read-ok-2
     add-j
     loop-less
     loop-again

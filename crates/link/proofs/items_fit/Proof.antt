@@ -9,9 +9,9 @@ use lib.ListN.{length, getD, take, drop, length-take, length-drop}
 use lib.Seq.{take-all}
 use Rattle.codec.specs.Every.{every}
 use Rattle.codec.proofs.EveryLaws.{every-none, every-more, every-fails}
-use Rattle.link.specs.Image.{itemTestAt, queueTest, sized}
-use Rattle.link.proofs.test.Statement.{statement}
-use Rattle.link.proofs.test.Tie as tie
+use Rattle.link.specs.Image.{itemTestAt, itemsTest, sized}
+use Rattle.link.proofs.items_fit.Statement.{statement}
+use Rattle.link.proofs.items_fit.Tie as tie
 
 abbrev Inv-loop : tie.InvT-loop
 Inv-loop places n t part b count k₀ k = (k ≤ count) × (every k (itemTestAt (sized n t) part) ≡ true)
@@ -22,19 +22,9 @@ abbrev μ-loop : tie.MeasureT-loop
 shared-slice-read-b : tie.Need-shared-slice-read-b Inv-loop μ-loop
 shared-slice-read-b c = search needs
 
-empty-requires : tie.Need-empty-requires Inv-loop μ-loop
-empty-requires c κs = search needs
-
 returns : tie.Need-returns Inv-loop μ-loop
-unfolding queueTest
-returns c =
-    let a = c .before .before .before .before .args in
-    let e : getD (now (a .part)) 0 0 ≡ 0 = c .before .if1 .taken in
-    rw (e, le-leb 0 (a .places) (omega arith), every-none) (c .empty .ensures)
-
-returns-2 : tie.Need-returns-2 Inv-loop μ-loop
-unfolding queueTest
-returns-2 c = rw (lt-leb _ _ (c .if2 .taken))
+unfolding itemsTest
+returns c = rw (lt-leb _ _ (c .if1 .taken))
 
 cast-count : tie.Need-cast-count Inv-loop μ-loop
 cast-count c = search needs
@@ -65,19 +55,19 @@ item-test-requires c κs = simp (length-take, length-drop) (omega arith)
 
 -- the test of the part lent is that of place k
 tested : (c : tie.After-item-test Inv-loop μ-loop)
-    → let s = c .before .before .before .before .before .before .before .before in
+    → let s = c .before .before .before .before .before .before .before in
     itemTestAt (sized (s .args .n) (s .args .t)) (now (s .args .part)) (c .before .before .before .loop .k) ≡ c .item-test .result
 tested c =
     let k = c .before .before .before .loop .k in
     let e : 1 + k * 21 + 21 - (1 + k * 21) ≡ 21 = omega arith in
     sym (rw e at (c .item-test .ensures))
 
-returns-3 : tie.Need-returns-3 Inv-loop μ-loop
-unfolding queueTest
-returns-3 c =
+returns-2 : tie.Need-returns-2 Inv-loop μ-loop
+unfolding itemsTest
+returns-2 c =
     let l = c .before .before .before .before .before in
-    let s = l .before .before .before .before in
-    rw (le-leb _ _ (l .if2 .left), every-fails (getD (now (s .args .part)) 0 0) _ (c .before .before .before .before .loop .k) (omega arith) (tested (c .before) ∙ not-true _ (c .if3 .taken)))
+    let s = l .before .before .before in
+    rw (le-leb _ _ (l .if1 .left), every-fails (getD (now (s .args .part)) 0 0) _ (c .before .before .before .before .loop .k) (omega arith) (tested (c .before) ∙ not-true _ (c .if2 .taken)))
 
 add-k : tie.Need-add-k Inv-loop μ-loop
 add-k c = search needs
@@ -88,46 +78,24 @@ loop-less c = search needs
 loop-again : tie.Need-loop-again Inv-loop μ-loop
 loop-again c =
     let l = c .before .before .before .before .loop in
-    (omega arith, every-more (l .k) _ (l .inv .1) (tested (c .before) ∙ not-false _ (c .if3 .left)))
+    (omega arith, every-more (l .k) _ (l .inv .1) (tested (c .before) ∙ not-false _ (c .if2 .left)))
 
-mul-z : tie.Need-mul-z Inv-loop μ-loop
-mul-z c = search needs
-
-add-z : tie.Need-add-z Inv-loop μ-loop
-add-z c = search needs
-
-sub-zeros : tie.Need-sub-zeros Inv-loop μ-loop
-sub-zeros c = search needs
-
-part-zeros-start : tie.Need-part-zeros-start Inv-loop μ-loop
-part-zeros-start c = search needs
-
-part-zeros-end : tie.Need-part-zeros-end Inv-loop μ-loop
-part-zeros-end c = search needs
-
-zeros-requires : tie.Need-zeros-requires Inv-loop μ-loop
-zeros-requires c κs = search needs
-
-returns-4 : tie.Need-returns-4 Inv-loop μ-loop
-unfolding queueTest
-returns-4 c =
-    let l = c .before .before .before in
-    let a = now (l .before .before .before .before .before .args .part) in
-    let z : ℕ = 1 + getD a 0 0 * 21 in
+returns-3 : tie.Need-returns-3 Inv-loop μ-loop
+unfolding itemsTest
+returns-3 c =
+    let l = c .before in
+    let a = now (l .before .before .before .before .args .part) in
     let e : l .loop .k ≡ getD a 0 0 = omega arith in
-    let f : take (length a - z) (drop z a) ≡ drop z a = take-all (length a - z) (drop z a) (simp length-drop (omega arith)) in
-    rw (le-leb _ _ (l .before .if2 .left), rw e at (l .loop .inv .1)) (rw f at (c .zeros .ensures))
+    rw (le-leb _ _ (l .before .if1 .left), rw e at (l .loop .inv .1))
 
-pub test-spec : {M : Type 1} → statement M
-test-spec =
+pub items-fit-spec : {M : Type 1} → statement M
+items-fit-spec =
     tie.close
     (tie.spec
     Inv-loop
     μ-loop
     shared-slice-read-b
-    empty-requires
     returns
-    returns-2
     cast-count
     loop-holds
     mul-o
@@ -137,14 +105,8 @@ test-spec =
     part-item-test-start
     part-item-test-end
     item-test-requires
-    returns-3
+    returns-2
     add-k
     loop-less
     loop-again
-    mul-z
-    add-z
-    sub-zeros
-    part-zeros-start
-    part-zeros-end
-    zeros-requires
-    returns-4)
+    returns-3)
