@@ -1,19 +1,21 @@
 -- Laws of the block check. Assumes nothing.
-use Prim.Native.Nat.{ℕ, suc, _+_, _*_, _%_, _^_, _≤_, _<_}
+use Prim.Native.Nat.{ℕ, zero, suc, _+_, _*_, _%_, _^_, _≤_, _<_}
 use mathlib.Core.Path.{_≡_, refl, _∙_, sym, ap}
 use mathlib.Core.List.{List, [], _∷_, _++_, append-nil}
 use native.Mathlib.Omega.{arith}
 use native.Mathlib.Numerals.{add-one}
 use native.Mathlib.Nat.{mul-le-mul}
 use lib.ListN.{length, getD, take, drop, length-take, length-drop, length-append, drop-of-length-le, take-append-drop}
-use lib.Seq.{take-suc, take-all, take-at, length-take-le}
+use lib.Seq.{take-suc, take-all, take-at, take-add, length-take-le}
 use mathlib.Core.Bool.{true}
 use borrow.Author.Tests.{eqb-true, eq-eqb}
 use Rattle.codec.specs.Num.{AreBytes, bytesOf, numAt}
 use Rattle.codec.specs.Splice.{splice}
+use Rattle.codec.specs.Every.{allZero, blank}
 use Rattle.codec.specs.Check.{weighted, checkOf, sealed, sealOf}
 use Rattle.codec.proofs.Fronts.{bytes-at}
 use Rattle.codec.proofs.NumLaws.{num-back}
+use Rattle.codec.proofs.EveryLaws.{zero-part}
 
 pub weighted-append : (k : ℕ) (a b : List ℕ) → weighted k (a ++ b) ≡ weighted k a + weighted (k + length a) b
 unfolding weighted
@@ -78,3 +80,15 @@ seal-seals p n =
     let e : checkOf (p ++ bytesOf 2 (checkOf p)) ≡ checkOf p = sym (check-front (p ++ bytesOf 2 (checkOf p))) ∙ ap checkOf t in
     let f : numAt 2 (p ++ (bytesOf 2 (checkOf p) ++ [])) 510 ≡ checkOf p = num-back 2 (checkOf p) 510 p [] n small in
     eq-eqb _ _ ((rw append-nil at f) ∙ sym e)
+
+-- ---- a block with zeros from byte 96 on
+zeros-weigh : (k n : ℕ) → weighted k (blank n) ≡ 0
+unfolding weighted blank
+zeros-weigh k zero = refl
+zeros-weigh k (suc n) = omega (arith, zeros-weigh (k + 1) n)
+
+-- zeros behind the first n bytes count for nothing
+pub zeros-behind : (l : List ℕ) (n m : ℕ) → n + m ≤ length l → allZero (take m (drop n l)) ≡ true → weighted 1 (take (n + m) l) ≡ weighted 1 (take n l)
+zeros-behind l n m h z =
+    let e : take m (drop n l) ≡ blank m = zero-part l m n h z in
+    rw (take-add n m l, weighted-append, e, zeros-weigh) (omega arith)

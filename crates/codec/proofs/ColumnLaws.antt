@@ -9,7 +9,7 @@ use native.Mathlib.Decide.{ℕ-discrete}
 use lib.ListN.{length, getD, set, take}
 use lib.Seq.{getD-set-same, getD-set-other}
 use Rattle.codec.specs.Check.{weighted}
-use Rattle.codec.specs.Columns.{sumTo, columnSum, columnRows, columnsTo}
+use Rattle.codec.specs.Columns.{sumTo, columnSum, columnRows, columnShare, columnsTo}
 use Rattle.codec.proofs.CheckLaws.{weighted-more, weighted-none}
 
 -- ---- sums
@@ -66,25 +66,29 @@ pub rows-more : (n : ℕ) (l : List ℕ) (j : ℕ) → columnRows (n + 1) l j �
 unfolding columnRows
 rows-more n l j = sum-more n (λ (r : ℕ). r * getD l (r * 32 + j) 0)
 
-pub columns-more : (n : ℕ) (l : List ℕ) → columnsTo (n + 1) l ≡ columnsTo n l + (32 * columnRows 15 l n + (n + 1) * columnSum 15 l n)
+pub columns-more : (n k : ℕ) (l : List ℕ) → columnsTo n (k + 1) l ≡ columnsTo n k l + columnShare n l k
 unfolding columnsTo
-columns-more n l = sum-more n (λ (j : ℕ). 32 * columnRows 15 l j + (j + 1) * columnSum 15 l j)
+columns-more n k l = sum-more k (columnShare n l)
 
-pub none : (l : List ℕ) (j : ℕ) → (columnSum 0 l j ≡ 0) × (columnRows 0 l j ≡ 0) × (columnsTo 0 l ≡ 0)
-unfolding sumTo columnSum columnRows columnsTo
-none l j = (refl, refl, refl)
+pub none : (l : List ℕ) (j : ℕ) → (columnSum 0 l j ≡ 0) × (columnRows 0 l j ≡ 0)
+unfolding sumTo columnSum columnRows
+none l j = (refl, refl)
+
+pub no-columns : (n : ℕ) (l : List ℕ) → columnsTo n 0 l ≡ 0
+unfolding sumTo columnsTo
+no-columns n l = refl
 
 -- what a column of n rows comes to
-of-column : (n : ℕ) (l : List ℕ) (j : ℕ) → sumTo n (λ (r : ℕ). (r * 32 + j + 1) * getD l (r * 32 + j) 0) ≡ 32 * columnRows n l j + (j + 1) * columnSum n l j
-unfolding sumTo columnSum columnRows
+of-column : (n : ℕ) (l : List ℕ) (j : ℕ) → sumTo n (λ (r : ℕ). (r * 32 + j + 1) * getD l (r * 32 + j) 0) ≡ columnShare n l j
+unfolding sumTo columnSum columnRows columnShare
 of-column zero l j = omega arith
 of-column (suc n) l j = omega (arith, of-column n l j)
 
--- the columns of 15 rows are the first 480 bytes
-pub columns-are : (l : List ℕ) → 480 ≤ length l → columnsTo 32 l ≡ weighted 1 (take 480 l)
+-- the columns of n rows are the first n * 32 bytes
+pub columns-are : (n : ℕ) (l : List ℕ) → n * 32 ≤ length l → columnsTo n 32 l ≡ weighted 1 (take (n * 32) l)
 unfolding columnsTo
-columns-are l h =
-    sum-same 32 _ _ (λ (j : ℕ). sym (of-column 15 l j)) ∙ sym (by-columns 32 15 (λ (p : ℕ). (p + 1) * getD l p 0)) ∙ sym (by-places l 480 h)
+columns-are n l h =
+    sum-same 32 _ _ (λ (j : ℕ). sym (of-column n l j)) ∙ sym (by-columns 32 n (λ (p : ℕ). (p + 1) * getD l p 0)) ∙ sym (by-places l (n * 32) h)
 
 -- a turn of the loop over the rows, from the last to the first
 pub turn-rows : (l : List ℕ) (j r low high x : ℕ) → 0 < r → x ≡ getD l ((r - 1) * 32 + j) 0 → low + columnSum r l j ≡ columnSum 15 l j
@@ -114,5 +118,14 @@ filled-more l lows highs j x y m n h f k b = go (ℕ-discrete k j)
     go (no e) = rw (getD-set-other lows j k x 0 e, getD-set-other highs j k y 0 e) (h k (omega arith))
 
 -- a column's share is small
-pub share-small : (k x : ℕ) → k < 32 → x ≤ 3825 → (k + 1) * x ≤ 122400
-share-small k x h g = mul-le-mul {n₁ = k + 1} {m₁ = x} {n₂ = 32} {m₂ = 3825} (omega arith) g
+pub share-small : (k x m : ℕ) → k < 32 → x ≤ m → (k + 1) * x ≤ 32 * m
+share-small k x m h g = mul-le-mul {n₁ = k + 1} {m₁ = x} {n₂ = 32} {m₂ = m} (omega arith) g
+
+-- a column of three rows, by its bytes
+sums-of-three : (l : List ℕ) (j a b c : ℕ) → a ≡ getD l j 0 → b ≡ getD l (32 + j) 0 → c ≡ getD l (64 + j) 0 → (columnRows 3 l j ≡ b + 2 * c) × (columnSum 3 l j ≡ a + b + c)
+unfolding sumTo columnSum columnRows
+sums-of-three l j a b c e f g = let z : getD l (0 * 32 + j) 0 ≡ getD l j 0 = ap (λ (k : ℕ). getD l k 0) (omega arith) in omega arith
+
+pub share-of-three : (l : List ℕ) (j a b c : ℕ) → a ≡ getD l j 0 → b ≡ getD l (32 + j) 0 → c ≡ getD l (64 + j) 0 → (j + 1) * (a + b + c) + 32 * (b + 2 * c) ≡ columnShare 3 l j
+unfolding columnShare
+share-of-three l j a b c e f g = let h = sums-of-three l j a b c e f g in rw (h .0, h .1) (omega arith)

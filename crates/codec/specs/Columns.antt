@@ -16,6 +16,10 @@ columnSum n l j = sumTo n (λ (r : ℕ). getD l (r * 32 + j) 0)
 unfoldable pub columnRows : ℕ → List ℕ → ℕ → ℕ
 columnRows n l j = sumTo n (λ (r : ℕ). r * getD l (r * 32 + j) 0)
 
--- what the first n columns of 15 rows come to, each byte times its place from 1
-unfoldable pub columnsTo : ℕ → List ℕ → ℕ
-columnsTo n l = sumTo n (λ (j : ℕ). 32 * columnRows 15 l j + (j + 1) * columnSum 15 l j)
+-- what column j of n rows comes to, each byte times its place from 1
+unfoldable pub columnShare : ℕ → List ℕ → ℕ → ℕ
+columnShare n l j = 32 * columnRows n l j + (j + 1) * columnSum n l j
+
+-- what the first k columns of n rows come to
+unfoldable pub columnsTo : ℕ → ℕ → List ℕ → ℕ
+columnsTo n k l = sumTo k (columnShare n l)

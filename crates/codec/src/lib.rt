@@ -1,12 +1,13 @@
 // Little-endian numbers in slices of bytes; runs of zeros; copies; the check of a block.
 ghost use mathlib.Core.Path.{_≡_};
+ghost use mathlib.Core.Bool.{true};
 ghost use Prim.Native.Nat.{_+_, _*_, _<_, _≤_};
 ghost use lib.ListN.{length, take, drop};
 ghost use Rattle.codec.specs.Splice.{splice};
 ghost use Rattle.codec.specs.Num.{bytesOf, numAt, numsAt, numsOf};
 ghost use Rattle.codec.specs.Every.{allZero, blank};
 ghost use Rattle.codec.specs.Check.{weighted, checkOf, sealed as Sealed, sealOf};
-ghost use Rattle.codec.specs.Columns.{columnSum, columnRows, columnsTo};
+ghost use Rattle.codec.specs.Columns.{columnShare, columnSum, columnRows, columnsTo};
 
 fn wide16(x: u8) -> u16
     ensures { λ r. ⌜ (r ≡ x) × (r < 256) ⌝ }
@@ -223,7 +224,7 @@ fn column(s: &[u8], j: usize) -> Sums
 // The sum of the first 480 bytes, each times its place from 1. The columns are vectorised: eight at a time, in 16 bits.
 fn weigh_columns(s: &[u8]) -> u32
     requires { ⌜ 480 ≤ length (now s) ⌝ }
-    ensures { λ r. ⌜ (r ≡ columnsTo 32 (now (s .entry))) × (r ≤ 58752000) ⌝ }
+    ensures { λ r. ⌜ (r ≡ columnsTo 15 32 (now (s .entry))) × (r ≤ 58752000) ⌝ }
 {
     let mut lows: [u16; 32] = [0; 32];
     let mut highs: [u16; 32] = [0; 32];
@@ -273,6 +274,44 @@ pub fn sealed(s: &[u8]) -> bool
     ensures { λ r. ⌜ r ≡ Sealed (now (s .entry)) ⌝ }
 {
     get16(s, 510) == check(s)
+}
+
+// What column j of three rows comes to, each byte times its place from 1: 16 bits hold it.
+fn share_front(s: &[u8], j: u16) -> u16
+    requires { ⌜ (j < 32) × (96 ≤ length (now s)) ⌝ }
+    ensures { λ r. ⌜ (r ≡ columnShare 3 (now (s .entry)) j) × (r ≤ 48960) ⌝ }
+{
+    let at = j as usize;
+    let a = wide16(s[at]);
+    let b = wide16(s[32 + at]);
+    let c = wide16(s[64 + at]);
+    (j + 1) * (a + b + c) + 32 * (b + 2 * c)
+}
+
+// The sum of the first 96 bytes, each times its place from 1. Added up in halves of 16 bits, so that the columns are
+// vectorised eight at a time.
+fn weigh_front(s: &[u8]) -> u32
+    requires { ⌜ 96 ≤ length (now s) ⌝ }
+    ensures { λ r. ⌜ (r ≡ columnsTo 3 32 (now (s .entry))) × (r ≤ 1572832) ⌝ }
+{
+    let mut low: u16 = 0;
+    let mut high: u16 = 0;
+    let mut i: u16 = 0;
+    while i < 32 {
+        let x = share_front(s, i);
+        low += x % 256;
+        high += x / 256;
+        i += 1;
+    }
+    (low as u32) + 256 * (high as u32)
+}
+
+// The same as `sealed`, for a block with zeros from byte 96 on, which count for nothing.
+pub fn sealed_front(s: &[u8]) -> bool
+    requires { ⌜ (length (now s) ≡ 512) × (allZero (take 414 (drop 96 (now s))) ≡ true) ⌝ }
+    ensures { λ r. ⌜ r ≡ Sealed (now (s .entry)) ⌝ }
+{
+    get16(s, 510) == ((1 + weigh_front(s)) % 65521) as u16
 }
 
 // Writes the check into a block's last two bytes.

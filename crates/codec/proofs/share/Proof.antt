@@ -16,15 +16,15 @@ cast-result : tie.Need-cast-result
 cast-result c = search needs
 
 mul-result-2 : tie.Need-mul-result-2
-mul-result-2 c = omega (arith, share-small (c .args .k) (c .args .low % 4096) (omega arith) (omega arith))
+mul-result-2 c = omega (arith, share-small (c .args .k) (c .args .low % 4096) 3825 (omega arith) (omega arith))
 
 add-result-2 : tie.Need-add-result-2
-add-result-2 c = omega (arith, share-small (c .args .k) (c .args .low % 4096) (omega arith) (omega arith))
+add-result-2 c = omega (arith, share-small (c .args .k) (c .args .low % 4096) 3825 (omega arith) (omega arith))
 
 returns : tie.Need-returns
 returns c =
     let e : c .args .low % 4096 ≡ c .args .low = omega arith in
-    rw e (omega (arith, share-small (c .args .k) (c .args .low) (omega arith) (omega arith)))
+    rw e (omega (arith, share-small (c .args .k) (c .args .low) 3825 (omega arith) (omega arith)))
 
 pub share-spec : {M : Type 1} → statement M
 share-spec =

@@ -21,7 +21,7 @@ weigh-columns-requires c κs = omega arith
 
 loop-holds : tie.Need-loop-holds Inv-loop μ-loop
 loop-holds c =
-    (omega arith, omega arith, omega arith, c .weigh-columns .ensures .0 ∙ columns-are (now (c .before .before .args .s)) (omega arith))
+    (omega arith, omega arith, omega arith, c .weigh-columns .ensures .0 ∙ columns-are 15 (now (c .before .before .args .s)) (omega arith))
 
 cast-at : tie.Need-cast-at Inv-loop μ-loop
 cast-at c = omega arith

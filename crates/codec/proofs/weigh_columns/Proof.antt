@@ -4,8 +4,8 @@ use native.Mathlib.Omega.{arith}
 use denote.Ref.{now}
 use lib.ListN.{length, length-set}
 use borrow.Author.Needs.{needs}
-use Rattle.codec.specs.Columns.{columnsTo}
-use Rattle.codec.proofs.ColumnLaws.{none, columns-more, Filled, filled-more}
+use Rattle.codec.specs.Columns.{columnShare, columnsTo}
+use Rattle.codec.proofs.ColumnLaws.{no-columns, columns-more, Filled, filled-more}
 use Rattle.codec.proofs.weigh_columns.Statement.{statement}
 use Rattle.codec.proofs.weigh_columns.Tie as tie
 
@@ -16,7 +16,7 @@ abbrev μ-loop : tie.MeasureT-loop
 μ-loop s lows₀ highs₀ j₀ lows highs j = 32 - j
 
 abbrev Inv-loop2 : tie.InvT-loop2
-Inv-loop2 s lows highs j sum₀ k₀ sum k = (k ≤ 32) × (sum ≤ 1836000 * k) × (sum ≡ columnsTo k s)
+Inv-loop2 s lows highs j sum₀ k₀ sum k = (k ≤ 32) × (sum ≤ 1836000 * k) × (sum ≡ columnsTo 15 k s)
 
 abbrev μ-loop2 : tie.MeasureT-loop2
 μ-loop2 s lows highs j sum₀ k₀ sum k = 32 - k
@@ -52,7 +52,7 @@ loop-again c =
     (omega arith, simp length-set (l .inv .1), simp length-set (l .inv .2), filled-more (now (a .s)) (l .lows) (l .highs) (l .j) (c .column .result .low) (c .column .result .high) (omega arith) (omega arith) (l .inv .3) (c .column .ensures))
 
 loop2-holds : tie.Need-loop2-holds Inv-loop μ-loop Inv-loop2 μ-loop2
-loop2-holds c = (omega arith, omega arith, sym (none (now (c .before .before .before .args .s)) 0 .2))
+loop2-holds c = (omega arith, omega arith, sym (no-columns 15 (now (c .before .before .before .args .s))))
 
 cast-at : tie.Need-cast-at Inv-loop μ-loop Inv-loop2 μ-loop2
 cast-at c = omega arith
@@ -82,12 +82,13 @@ loop2-less : tie.Need-loop2-less Inv-loop μ-loop Inv-loop2 μ-loop2
 loop2-less c = omega arith
 
 loop2-again : tie.Need-loop2-again Inv-loop μ-loop Inv-loop2 μ-loop2
+unfolding columnShare
 loop2-again c =
     let l = c .before .before .loop2 in
     let s = now (c .before .before .before .before .before .before .args .s) in
     let f = c .before .before .before .before .loop .inv .3 (l .k) (omega arith) in
     let e = rw (f .0, f .1) at (c .share .ensures .0) in
-    (omega arith, omega arith, omega (arith, columns-more (l .k) s))
+    (omega arith, omega arith, omega (arith, columns-more 15 (l .k) s))
 
 returns : tie.Need-returns Inv-loop μ-loop Inv-loop2 μ-loop2
 returns c =

@@ -1,0 +1,35 @@
+use mathlib.Core.Path.{_≡_, _∙_, sym}
+use native.Mathlib.Omega.{arith}
+use denote.Ref.{now}
+use lib.ListN.{take}
+use Rattle.codec.specs.Check.{weighted, checkOf, sealed}
+use Rattle.codec.proofs.CheckLaws.{zeros-behind}
+use Rattle.codec.proofs.ColumnLaws.{columns-are}
+use borrow.Author.Needs.{needs}
+use Rattle.codec.proofs.sealed_front.Statement.{statement}
+use Rattle.codec.proofs.sealed_front.Tie as tie
+
+get16-requires : tie.Need-get16-requires
+get16-requires c κs = search needs
+
+weigh-front-requires : tie.Need-weigh-front-requires
+weigh-front-requires c κs = search needs
+
+add-result : tie.Need-add-result
+add-result c = search needs
+
+cast-result : tie.Need-cast-result
+cast-result c = search needs
+
+returns : tie.Need-returns
+unfolding sealed checkOf
+returns c =
+    let a = c .before .before .before in
+    let l = now (a .args .s) in
+    let e : c .weigh-front .result ≡ weighted 1 (take 510 l) =
+    c .weigh-front .ensures .0 ∙ columns-are 3 l (omega arith) ∙ sym (zeros-behind l 96 414 (omega arith) (a .pre .1)) in
+    rw (c .before .get16 .ensures, e)
+
+pub sealed-front-spec : {M : Type 1} → statement M
+sealed-front-spec =
+    tie.close (tie.spec get16-requires weigh-front-requires add-result cast-result returns)
