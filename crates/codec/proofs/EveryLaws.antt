@@ -8,7 +8,7 @@ use native.Mathlib.Omega.{arith}
 use native.Mathlib.Numerals.{add-one}
 use native.Mathlib.Nat.{eq-or-lt-of-le}
 use lib.ListN.{length, getD, take, drop, replicate, length-take, length-drop}
-use lib.Seq.{take-suc}
+use lib.Seq.{take-suc, take-add, drop-drop}
 use lib.Dec.{eqb}
 use lib.Bits.{bitOr, or-add-and, and-le-l, and-le-r}
 use borrow.Author.Tests.{eq-eqb, ne-eqb, eqb-true}
@@ -98,3 +98,19 @@ pub every-same : (n : ℕ) (p q : ℕ → Bool) → ((i : ℕ) → i < n → p i
 unfolding every
 every-same zero p q h = refl
 every-same (suc n) p q h = rw (every-same n p q (λ (i : ℕ) (l : i < n). h i (omega arith)), h n (omega arith))
+
+-- ---- zeros in two parts that overlap
+total-part : (l : List ℕ) (at n m : ℕ) → total (take (n + m) (drop at l)) ≡ total (take n (drop at l)) + total (take m (drop (at + n) l))
+total-part l at n m = rw (take-add n m (drop at l), total-append, drop-drop)
+
+zero-sums : (x y z : ℕ) → eqb (x + y + z) 0 ≡ (eqb (x + y) 0 && eqb (y + z) 0)
+zero-sums zero zero z = refl
+zero-sums zero (suc y) z = rw (ne-eqb (0 + suc y + z) 0 (λ (e : 0 + suc y + z ≡ 0). omega arith), ne-eqb (0 + suc y) 0 (λ (e : 0 + suc y ≡ 0). omega arith))
+zero-sums (suc x) y z = rw (ne-eqb (suc x + y + z) 0 (λ (e : suc x + y + z ≡ 0). omega arith), ne-eqb (suc x + y) 0 (λ (e : suc x + y ≡ 0). omega arith))
+
+-- n + o bytes are zero, and o + m whose first are the last o of those
+pub zeros-overlap : (l : List ℕ) (at n o m : ℕ) → allZero (take (n + o + m) (drop at l)) ≡ (allZero (take (n + o) (drop at l)) && allZero (take (o + m) (drop (at + n) l)))
+zeros-overlap l at n o m =
+    let e : at + (n + o) ≡ at + n + o = omega arith in
+    rw (total-part l at (n + o) m, total-part l at n o, total-part l (at + n) o m, e)
+    (zero-sums (total (take n (drop at l))) (total (take o (drop (at + n) l))) (total (take m (drop (at + n + o) l))))

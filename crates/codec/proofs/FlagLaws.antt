@@ -1,9 +1,10 @@
 -- Laws of flags: a test of every index gathered without a branch, and tests made of others. Assumes nothing.
-use Prim.Native.Nat.{ℕ, zero, suc, _+_, _≤_, _<_}
+use Prim.Native.Nat.{ℕ, zero, suc, _+_, _*_, _≤_, _<_}
 use mathlib.Core.Path.{_≡_, refl, sym}
-use mathlib.Core.Bool.{Bool, true, false, not, _&&_, _||_, and-false}
+use mathlib.Core.Bool.{Bool, true, false, not, _&&_, _||_, and-false, and-true, and-assoc}
 use native.Mathlib.Omega.{arith}
 use native.Mathlib.Numerals.{add-one}
+use native.Mathlib.Nat.{zero-mul, suc-mul}
 use lib.Dec.{eqb, leb, ltb}
 use borrow.Author.Tests.{ltb-true, ltb-false, leb-true, leb-false, le-leb, lt-leb, eq-eqb, ne-eqb}
 use Rattle.codec.specs.Every.{every}
@@ -50,3 +51,18 @@ pub every-both : (s p q : ℕ → Bool) → ((k : ℕ) → s k ≡ (p k && q k))
 unfolding every
 every-both s p q h zero = refl
 every-both s p q h (suc n) = rw (h n, every-both s p q h n) (and-swap (every n p) (every n q) (p n) (q n))
+
+-- ---- rows
+-- a test of n + m indices in two parts
+every-add : (n m : ℕ) (p : ℕ → Bool) → every (n + m) p ≡ (every n p && every m (λ (i : ℕ). p (n + i)))
+unfolding every
+every-add n zero p = let e : n + 0 ≡ n = omega arith in rw (e, and-true)
+every-add n (suc m) p =
+    let e : n + suc m ≡ suc (n + m) = omega arith in
+    rw (e, every-add n m p) (and-assoc (every n p) (every m (λ (i : ℕ). p (n + i))) (p (n + m)))
+
+-- n rows of w indices, row by row
+pub every-rows : (w n : ℕ) (p : ℕ → Bool) → every (n * w) p ≡ every n (λ (i : ℕ). every w (λ (j : ℕ). p (i * w + j)))
+unfolding every
+every-rows w zero p = rw zero-mul
+every-rows w (suc n) p = rw (suc-mul, every-add, every-rows w n p)

@@ -3,7 +3,7 @@ use Prim.Native.Nat.{ℕ, zero, suc, _+_, _*_, _/_, _%_, _<_, _≤_}
 use mathlib.Core.Path.{_≡_, refl, _∙_, sym, ap}
 use mathlib.Core.Logic.{_≢_}
 use mathlib.Core.List.{List, [], _∷_, _++_}
-use mathlib.Core.Bool.{true, false}
+use mathlib.Core.Bool.{Bool, true, false, _&&_, and-false, and-true}
 use native.Mathlib.Omega.{arith}
 use native.Mathlib.Nat.{add-zero}
 use lib.Dec.{eqb, leb}
@@ -11,17 +11,18 @@ use lib.ListN.{length, getD, take, drop, set, length-append, length-set, length-
 use lib.Seq.{getD-take, getD-drop, ext-getD}
 use borrow.Author.Tests.{eqb-true, eq-eqb, leb-true}
 use Rattle.codec.specs.Num.{AreBytes, bytesOf, numsOf}
-use Rattle.codec.specs.Every.{allZero, blank}
+use Rattle.codec.specs.Every.{every, allZero, blank}
 use Rattle.codec.specs.Check.{sealed, sealOf}
 use Rattle.codec.proofs.NumLaws.{nums-length, Below}
 use Rattle.codec.proofs.BlankLaws.{blank-length}
-use Rattle.codec.proofs.EveryLaws.{both, zero-part, zeros-blank}
+use Rattle.codec.proofs.EveryLaws.{both, every-same, zero-part, zeros-blank}
+use Rattle.codec.proofs.FlagLaws.{every-rows}
 use Rattle.codec.proofs.Stride.{upto-length, upto-at, upto-is}
 use Rattle.codec.proofs.Fronts.{front-part, front-nums, front-num, front-byte, front-none}
 use Rattle.codec.proofs.Has.{Has, has-last, has-more, has-num, has-nums, has-part, has-at}
 use Rattle.codec.proofs.OneByte.{one-byte}
 use Rattle.codec.proofs.CheckLaws.{seal-length, seal-seals, sealed-is}
-use Rattle.header.specs.Header.{headerFits, bytesAt, tableAt, tableOf, parseHeader, headerBody, imageHeader, wellMadeHeader}
+use Rattle.header.specs.Header.{rowFits, limitsFit, headerFits, bytesAt, tableAt, tableOf, parseHeader, headerBody, imageHeader, wellMadeHeader}
 use Rattle.header.specs.declared.Header.{Header}
 
 pub table-length : (m : List (List ℕ)) → length (tableOf m) ≡ 64
@@ -51,6 +52,20 @@ well-made-parts l h =
     let e = both (allZero (take 12 (drop 4 l))) _ (d .1) in
     let f = both (allZero (take 414 (drop 96 l))) _ (e .1) in
     (eqb-true _ _ (a .0), b .0, eqb-true _ _ (d .0), e .0, f .0, f .1)
+
+-- the same in another order
+in-order : (a k z y f : Bool) → (a && (k && (z && (y && f)))) ≡ (k && f && (y && (z && a)))
+in-order a false z y f = and-false a
+in-order a true z y false = simp and-false
+in-order a true z false true = simp and-false
+in-order a true false true true = and-false a
+in-order a true true true true = and-true a
+
+-- the test of 512 bytes, the check last
+pub check-last : (l : List ℕ) → length l ≡ 512
+    → wellMadeHeader l ≡ (eqb (getD l 0 0) 1 && headerFits (parseHeader l) (tableAt 8 l 32) && (allZero (take 414 (drop 96 l)) && (allZero (take 12 (drop 4 l)) && sealed l)))
+unfolding wellMadeHeader
+check-last l n = rw (eq-eqb _ 512 n) (in-order (sealed l) (eqb (getD l 0 0) 1) (allZero (take 12 (drop 4 l))) (allZero (take 414 (drop 96 l))) (headerFits (parseHeader l) (tableAt 8 l 32)))
 
 pub well-made-length : (l : List ℕ) → wellMadeHeader l ≡ true → length l ≡ 512
 well-made-length l h = well-made-parts l h .0
@@ -86,6 +101,13 @@ unfolding tableAt
 table-row zero l at i h = absurd (omega arith)
 table-row (suc n) l at zero h = refl
 table-row (suc n) l at (suc i) h = table-row n l (at + 8) i (omega arith)
+
+-- the limits of a table in bytes, byte by byte
+pub limits-bytes : (l : List ℕ) (at : ℕ) → limitsFit (tableAt 8 l at) ≡ every 64 (λ (k : ℕ). leb (getD l (at + k) 0) 32)
+unfolding limitsFit rowFits
+limits-bytes l at =
+    every-same 8 _ _ (λ (i : ℕ) (h : i < 8). every-same 8 _ _ (λ (j : ℕ) (g : j < 8). ap (λ (x : ℕ). leb x 32) (table-at 8 l at i j h g)))
+    ∙ sym (every-rows 8 8 (λ (k : ℕ). leb (getD l (at + k) 0) 32))
 
 -- a table that is read and written again
 pub table-forth : (l : List ℕ) (at : ℕ) → at + 64 ≤ length l → tableOf (tableAt 8 l at) ≡ take 64 (drop at l)

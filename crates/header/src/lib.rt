@@ -2,7 +2,8 @@
 ghost use mathlib.Core.Path.{_≡_};
 ghost use mathlib.Core.List.{[], _∷_};
 ghost use Prim.Native.Nat.{_≤_, _+_};
-ghost use lib.ListN.{length};
+ghost use lib.ListN.{length, take, drop};
+ghost use Rattle.codec.specs.Every.{allZero};
 ghost use Rattle.codec.specs.Splice.{splice};
 ghost use Rattle.header.specs.Header.{rowFits, limitsFit, headerFits, bytesAt, tableAt, tableOf, parseHeader, wellMadeHeader, imageHeader, writeHeader, readHeader, readLimits};
 
@@ -113,17 +114,50 @@ pub fn load(s: &[u8]) -> Header
     }
 }
 
-// The bytes are a header block.
+// Every limit of a header block is at most 32. No early exit, so that the loop is vectorised.
+fn limits_small(s: &[u8]) -> bool
+    requires { ⌜ length (now s) ≡ 512 ⌝ }
+    ensures { λ r. ⌜ r ≡ limitsFit (tableAt 8 (now (s .entry)) 32) ⌝ }
+{
+    let mut ok = true;
+    let mut i = 0;
+    while i < 64 {
+        ok = ok & (s[32 + i] <= 32);
+        i += 1;
+    }
+    ok
+}
+
+// Every field of a header block is in its range.
+fn fields_fit(s: &[u8]) -> bool
+    requires { ⌜ length (now s) ≡ 512 ⌝ }
+    ensures { λ r. ⌜ r ≡ headerFits (parseHeader (now (s .entry))) (tableAt 8 (now (s .entry)) 32) ⌝ }
+{
+    (1 <= s[1]) & ((s[1] <= 8) & ((1 <= codec::get16(s, 2)) & limits_small(s)))
+}
+
+// Bytes 96 to 509 are zero: in two parts that overlap, each a multiple of 16, the width of a vector.
+fn rest_blank(s: &[u8]) -> bool
+    requires { ⌜ length (now s) ≡ 512 ⌝ }
+    ensures { λ r. ⌜ r ≡ allZero (take 414 (drop 96 (now (s .entry)))) ⌝ }
+{
+    codec::zeros(&s[96..496]) & codec::zeros(&s[494..510])
+}
+
+// The bytes are a header block. The check comes last: where bytes 96 to 509 are zero it is of the first 96.
 pub fn well_made(s: &[u8]) -> bool
     ensures { λ r. ⌜ r ≡ wellMadeHeader (now (s .entry)) ⌝ }
 {
     if s.len() != 512 {
         return false;
     }
-    codec::sealed(s)
-        & ((s[0] == 1)
-            & (codec::zeros(&s[4..16])
-                & (codec::zeros(&s[96..510]) & header_fits(load(s), load_limits(s)))))
+    if !((s[0] == 1) & fields_fit(s)) {
+        return false;
+    }
+    if !rest_blank(s) {
+        return false;
+    }
+    codec::zeros(&s[4..16]) & codec::sealed_front(s)
 }
 
 fn store_limits(d: &mut [u8], limits: [[u8; 8]; 8])

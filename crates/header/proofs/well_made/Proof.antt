@@ -1,6 +1,13 @@
-use borrow.Author.Tests.{eq-eqb, ne-eqb}
-use borrow.Author.Needs.{needs}
+use mathlib.Core.Path.{_∙_, sym, ap}
+use mathlib.Core.Bool.{Bool, _&&_}
+use lib.Dec.{eqb}
+use lib.ListN.{getD}
+use native.Mathlib.Omega.{arith}
+use denote.Ref.{now}
+use borrow.Author.Tests.{ne-eqb, not-true, not-false}
 use Rattle.header.specs.Header.{wellMadeHeader}
+use Rattle.header.proofs.Laws.{check-last}
+use borrow.Author.Needs.{needs}
 use Rattle.header.proofs.well_made.Statement.{statement}
 use Rattle.header.proofs.well_made.Tie as tie
 
@@ -8,11 +15,28 @@ returns : tie.Need-returns
 unfolding wellMadeHeader
 returns c = rw (ne-eqb _ 512 (c .if1 .taken))
 
-sealed-requires : tie.Need-sealed-requires
-sealed-requires c κs = search needs
+shared-slice-read-if2 : tie.Need-shared-slice-read-if2
+shared-slice-read-if2 c = search needs
 
-shared-slice-read-result : tie.Need-shared-slice-read-result
-shared-slice-read-result c = search needs
+fields-fit-requires : tie.Need-fields-fit-requires
+fields-fit-requires c κs = search needs
+
+returns-2 : tie.Need-returns-2
+returns-2 c =
+    let f = c .before in
+    let l = now (f .before .before .before .before .args .s) in
+    let k = ap (λ (x : Bool). eqb (getD l 0 0) 1 && x) (sym (f .fields-fit .ensures)) in
+    rw (check-last l (f .before .before .if1 .left), k ∙ not-true _ (c .if2 .taken))
+
+rest-blank-requires : tie.Need-rest-blank-requires
+rest-blank-requires c κs = search needs
+
+returns-3 : tie.Need-returns-3
+returns-3 c =
+    let f = c .before .before .before in
+    let l = now (f .before .before .before .before .args .s) in
+    let k = ap (λ (x : Bool). eqb (getD l 0 0) 1 && x) (sym (f .fields-fit .ensures)) in
+    rw (check-last l (f .before .before .if1 .left), k ∙ not-false _ (c .before .before .if2 .left), sym (c .before .rest-blank .ensures) ∙ not-true _ (c .if3 .taken))
 
 sub-zeros : tie.Need-sub-zeros
 sub-zeros c = search needs
@@ -26,47 +50,30 @@ part-zeros-end c = search needs
 zeros-requires : tie.Need-zeros-requires
 zeros-requires c κs = search needs
 
-sub-zeros-2 : tie.Need-sub-zeros-2
-sub-zeros-2 c = search needs
+sealed-front-requires : tie.Need-sealed-front-requires
+sealed-front-requires c κs = (omega arith, sym (c .before .before .before .rest-blank .ensures) ∙ not-false _ (c .before .before .if3 .left))
 
-part-zeros-start-2 : tie.Need-part-zeros-start-2
-part-zeros-start-2 c = search needs
-
-part-zeros-end-2 : tie.Need-part-zeros-end-2
-part-zeros-end-2 c = search needs
-
-zeros-requires-2 : tie.Need-zeros-requires-2
-zeros-requires-2 c κs = search needs
-
-load-requires : tie.Need-load-requires
-load-requires c κs = search needs
-
-load-limits-requires : tie.Need-load-limits-requires
-load-limits-requires c κs = search needs
-
-header-fits-requires : tie.Need-header-fits-requires
-header-fits-requires c κs = search needs
-
-returns-2 : tie.Need-returns-2
-unfolding wellMadeHeader
-returns-2 c = rw (eq-eqb _ 512 (c .before .before .before .before .before .before .before .before .before .if1 .left)) (cc)
+returns-4 : tie.Need-returns-4
+returns-4 c =
+    let b = c .before .before .before .before in
+    let f = b .before .before in
+    let l = now (f .before .before .before .before .args .s) in
+    let k = ap (λ (x : Bool). eqb (getD l 0 0) 1 && x) (sym (f .fields-fit .ensures)) in
+    rw (check-last l (f .before .before .if1 .left), k ∙ not-false _ (b .before .if2 .left), sym (b .rest-blank .ensures) ∙ not-false _ (c .before .before .before .if3 .left), c .before .zeros .ensures, c .sealed-front .ensures)
 
 pub well-made-spec : {M : Type 1} → statement M
 well-made-spec =
     tie.close
     (tie.spec
     returns
-    sealed-requires
-    shared-slice-read-result
+    shared-slice-read-if2
+    fields-fit-requires
+    returns-2
+    rest-blank-requires
+    returns-3
     sub-zeros
     part-zeros-start
     part-zeros-end
     zeros-requires
-    sub-zeros-2
-    part-zeros-start-2
-    part-zeros-end-2
-    zeros-requires-2
-    load-requires
-    load-limits-requires
-    header-fits-requires
-    returns-2)
+    sealed-front-requires
+    returns-4)
