@@ -166,8 +166,13 @@ pub fn test(a: &[u8]) -> bool
     if !header::well_made(head) {
         return false;
     }
+    // A header alone needs no table.
+    let n = a.len() / 512 - 1;
+    if n == 0 {
+        return true;
+    }
     let known = fronts(head, head[1]);
-    blocks_fit(a, head, &known, a.len() / 512 - 1)
+    blocks_fit(a, head, &known, n)
 }
 
 // How many records a tested archive has.

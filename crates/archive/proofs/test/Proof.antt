@@ -4,7 +4,8 @@ use native.Mathlib.Omega.{arith}
 use borrow.Author.Tests.{not-true, not-false, eq-eqb, ne-eqb}
 use denote.Ref.{now}
 use lib.ListN.{take}
-use Rattle.archive.specs.Archive.{blocks, archiveTest}
+use Rattle.codec.proofs.EveryLaws.{every-none}
+use Rattle.archive.specs.Archive.{blocks, blocksFit, archiveTest}
 use Rattle.header.proofs.Laws.{header-small}
 use Rattle.archive.proofs.Laws.{short-refused}
 use borrow.Author.Needs.{needs}
@@ -35,23 +36,32 @@ returns-3 : tie.Need-returns-3
 unfolding archiveTest blocks
 returns-3 c = rw (eq-eqb _ 0 (c .before .before .before .before .if1 .left), sym (c .before .well-made .ensures) ∙ not-true _ (c .if3 .taken))
 
+sub-n : tie.Need-sub-n
+sub-n c = search needs
+
+returns-4 : tie.Need-returns-4
+unfolding archiveTest blocksFit blocks
+returns-4 c =
+    let h = sym (c .before .before .well-made .ensures) ∙ not-false _ (c .before .if3 .left) in
+    rw (eq-eqb _ 0 (c .before .before .before .before .before .if1 .left), h, c .if4 .taken) (sym (every-none _))
+
 shared-slice-read-fronts : tie.Need-shared-slice-read-fronts
 shared-slice-read-fronts c = search needs
 
 fronts-requires : tie.Need-fronts-requires
 fronts-requires c κs = search needs
 
-sub-blocks-fit : tie.Need-sub-blocks-fit
-sub-blocks-fit c = search needs
-
 blocks-fit-requires : tie.Need-blocks-fit-requires
 blocks-fit-requires c κs =
-    let n = header-small (take 512 (now (c .before .before .before .before .before .before .before .before .before .args .a))) (sym (c .before .before .before .before .well-made .ensures) ∙ not-false _ (c .before .before .before .if3 .left)) in
+    let a = now (c .before .before .before .before .before .before .before .before .before .before .args .a) in
+    let n = header-small (take 512 a) (sym (c .before .before .before .before .before .well-made .ensures) ∙ not-false _ (c .before .before .before .before .if3 .left)) in
     (search needs, n, c .before .fronts .ensures, omega arith)
 
-returns-4 : tie.Need-returns-4
+returns-5 : tie.Need-returns-5
 unfolding archiveTest blocks
-returns-4 c = rw (eq-eqb _ 0 (c .before .before .before .before .before .before .before .before .if1 .left), (sym (c .before .before .before .before .before .well-made .ensures) ∙ not-false _ (c .before .before .before .before .if3 .left))) (c .blocks-fit .ensures)
+returns-5 c =
+    let h = sym (c .before .before .before .before .before .before .well-made .ensures) ∙ not-false _ (c .before .before .before .before .before .if3 .left) in
+    rw (eq-eqb _ 0 (c .before .before .before .before .before .before .before .before .before .if1 .left), h) (c .blocks-fit .ensures)
 
 pub test-spec : {M : Type 1} → statement M
 test-spec =
@@ -64,8 +74,9 @@ test-spec =
     part-head-end
     well-made-requires
     returns-3
+    sub-n
+    returns-4
     shared-slice-read-fronts
     fronts-requires
-    sub-blocks-fit
     blocks-fit-requires
-    returns-4)
+    returns-5)
