@@ -7,13 +7,14 @@ use native.Mathlib.Omega.{arith}
 use native.Mathlib.Decide.{decLt}
 use native.Mathlib.Nat.{zero-mul, suc-mul}
 use lib.Dec.{eqb, leb, ltb}
+use lib.Bits.{bitOr, or-add-and, and-le-l, and-le-r}
 use lib.ListN.{length, getD, take, drop, length-take, length-drop}
 use lib.Seq.{getD-take, getD-drop}
-use borrow.Author.Tests.{eq-eqb, eqb-true, ltb-true, lt-ltb, le-leb}
+use borrow.Author.Tests.{eq-eqb, ne-eqb, eqb-true, eqb-false, ltb-true, lt-ltb, le-leb}
 use Rattle.codec.specs.Num.{AreBytes, numAt, numsAt}
 use Rattle.codec.specs.Every.{every, total}
-use Rattle.codec.proofs.EveryLaws.{both, join, every-at, every-of, every-same}
-use Rattle.codec.proofs.FlagLaws.{every-both}
+use Rattle.codec.proofs.EveryLaws.{both, join, every-at, every-of, every-same, alike-or, alike-eqb}
+use Rattle.codec.proofs.FlagLaws.{every-turn, every-both}
 use Rattle.codec.proofs.Fronts.{bytes-take, bytes-drop}
 use Rattle.clock.specs.Range.{ceilingOf, countsFit}
 use Rattle.header.specs.declared.Header.{Header}
@@ -23,7 +24,7 @@ use Rattle.entries.specs.Starts.{recordStart, recordsEnd}
 use Rattle.entries.specs.Entries.{countOf, numberOf, recordOf, frontFits, tailFits, bodyFits, wellMadeEntries}
 use Rattle.entries.proofs.Laws.{start-is, end-is, front-parts}
 use Rattle.archive.specs.Archive.{peerKnown, recordKnown, allKnown, blockFits}
-use Rattle.archive.specs.Sweep.{countAt, countsTest, Fronts, placeOf, recordTest}
+use Rattle.archive.specs.Sweep.{countAt, countsTest, Fronts, placeOf, frontTest, spareTest, phaseTest, recordTest, Looked}
 use Rattle.archive.proofs.FrontLaws.{front-back, front-right}
 
 -- ---- tests
@@ -77,15 +78,16 @@ zero-at (x ∷ l) zero h = omega arith
 zero-at (x ∷ l) (suc i) h = zero-at l i (omega arith)
 
 -- ---- one record
+place-small : (x : ℕ) → placeOf x < 256
+unfolding placeOf
+place-small x = omega arith
+
 module _ (h : Header) (m : List (List ℕ)) (f l : List ℕ) (small : h .n ≤ 8) (known : Fronts (h .n) m f) (sized : length l ≡ 32) (bytes : AreBytes l) where
-  own-at : getD l 1 0 < 8 → getD (numsAt 2 8 l 16) (getD l 1 0) 0 ≡ numAt 2 l (16 + 2 * (getD l 1 0 % 8))
+  own-at : getD l 1 0 < 8 → getD (numsAt 2 8 l 16) (getD l 1 0) 0 ≡ numAt 2 l (16 + 2 * getD l 1 0)
   own-at b = nums-get 2 8 l 16 (getD l 1 0) b ∙ ap (λ (x : ℕ). numAt 2 l (16 + x)) (omega arith)
 
-  place-small : placeOf l < 256
-  place-small = omega arith
-
   forth : (wellMadeRecord l && recordKnown h m (parseRecord l)) ≡ true → (recordTest f l && countsFit (h .n) (h .t) (numsAt 2 8 l 16)) ≡ true
-  unfolding recordFits recordKnown recordTest
+  unfolding recordFits recordKnown recordTest frontTest
   forth e =
       let p = both (wellMadeRecord l) _ e in
       let w = well-made-parts l (p .0) in
@@ -94,23 +96,23 @@ module _ (h : Header) (m : List (List ℕ)) (f l : List ℕ) (small : h .n ≤ 8
       let c = both (leb (numAt 4 l 4) 999999) _ (b .1) in
       let d = both (ltb (getD l 1 0) (h .n)) _ (p .1) in
       let g = both (peerKnown (h .n) m (parseRecord l)) _ (d .1) in
-      let x = front-right (h .n) m small (parseRecord l) (ltb-true _ _ (d .0), b .0, g .0) in
-      let y : getD f (placeOf l) 0 ≡ numAt 4 l 0 = known (placeOf l) place-small ∙ x ∙ omega (arith, w .1) in
-      let z = rw (own-at (ltb-true _ _ (a .0))) at (c .1) in
-      join _ _ (join _ _ (eq-eqb _ _ y) (join _ _ (eq-eqb _ _ (w .2)) (join _ _ (c .0) z))) (g .1)
+      let x = front-right (h .n) m small (parseRecord l) (numAt 4 l 0) (omega (arith, w .1)) (ltb-true _ _ (d .0), b .0, g .0) in
+      let y : getD f (placeOf (numAt 4 l 0)) 0 ≡ numAt 4 l 0 = known (placeOf (numAt 4 l 0)) (place-small (numAt 4 l 0)) ∙ x .0 in
+      let z = rw (own-at (ltb-true _ _ (a .0)), ← x .1) at (c .1) in
+      join _ _ (join _ _ (join _ _ (join _ _ (eq-eqb _ _ y) z) (eq-eqb _ _ (w .2))) (c .0)) (g .1)
 
   back : (recordTest f l && countsFit (h .n) (h .t) (numsAt 2 8 l 16)) ≡ true → (wellMadeRecord l && recordKnown h m (parseRecord l)) ≡ true
-  unfolding wellMadeRecord recordFits recordKnown recordTest
+  unfolding wellMadeRecord recordFits recordKnown recordTest frontTest
   back e =
       let p = both (recordTest f l) _ e in
-      let a = both (eqb (getD f (placeOf l) 0) (numAt 4 l 0)) _ (p .0) in
-      let b = both (eqb (numAt 4 l 12) 0) _ (a .1) in
-      let c = both (leb (numAt 4 l 4) 999999) _ (b .1) in
-      let x = front-back (h .n) m small (parseRecord l) (getD l 3 0) (bytes 0) (bytes 1) (bytes 2) (bytes 3) (sym (known (placeOf l) place-small) ∙ eqb-true _ _ (a .0)) in
-      let s : getD l 1 0 < 8 = omega (arith, x .1 .0) in
-      let z = rw (← own-at s) at (c .1) in
-      join _ _ (join _ _ (eq-eqb _ _ sized) (join _ _ (eq-eqb _ _ (x .0)) (join _ _ (b .0) (join _ _ (lt-ltb _ _ s) (join _ _ (x .1 .1) (join _ _ (c .0) z))))))
-      (join _ _ (lt-ltb _ _ (x .1 .0)) (join _ _ (x .1 .2) (p .1)))
+      let q = both (frontTest f l && spareTest l) _ (p .0) in
+      let b = both (frontTest f l) _ (q .0) in
+      let a = both (eqb (getD f (placeOf (numAt 4 l 0)) 0) (numAt 4 l 0)) _ (b .0) in
+      let x = front-back (h .n) m small (parseRecord l) (getD l 3 0) (numAt 4 l 0) (bytes 0) (bytes 1) (bytes 2) (bytes 3) refl (sym (known (placeOf (numAt 4 l 0)) (place-small (numAt 4 l 0))) ∙ eqb-true _ _ (a .0)) in
+      let s : getD l 1 0 < 8 = omega (arith, x .2 .0) in
+      let z = rw (x .1, ← own-at s) at (a .1) in
+      join _ _ (join _ _ (eq-eqb _ _ sized) (join _ _ (eq-eqb _ _ (x .0)) (join _ _ (b .1) (join _ _ (lt-ltb _ _ s) (join _ _ (x .2 .1) (join _ _ (q .1) z))))))
+      (join _ _ (lt-ltb _ _ (x .2 .0)) (join _ _ (x .2 .2) (p .1)))
 
   pub record-law : (wellMadeRecord l && recordKnown h m (parseRecord l)) ≡ (recordTest f l && countsFit (h .n) (h .t) (numsAt 2 8 l 16))
   record-law = same-test _ _ forth back
@@ -151,6 +153,57 @@ module _ (l : List ℕ) where
         counts-all n t ∙ every-further count 15 _ high
         (λ (k : ℕ) (a : count ≤ k) (b : k < 15). counts-part n t k b ∙ every-of 8 _ (λ (i : ℕ) (c : i < 8).
         rw (tail-zero (32 + k * 32 + 2 * i) (omega arith) (omega arith), tail-zero (32 + k * 32 + 2 * i + 1) (omega arith) (omega arith)) (le-leb 0 (ceilingOf n t i) (omega arith))))
+
+-- the records by first bytes, spare bytes and phases
+records-split : (f l : List ℕ) (count : ℕ)
+    → every count (λ (k : ℕ). recordTest f (recordOf l k))
+    ≡ (every count (λ (k : ℕ). frontTest f (recordOf l k)) && every count (λ (k : ℕ). spareTest (recordOf l k)) && every count (λ (k : ℕ). phaseTest (recordOf l k)))
+unfolding recordTest
+records-split f l count =
+    let a : ℕ → Bool = λ (k : ℕ). frontTest f (recordOf l k) in
+    let b : ℕ → Bool = λ (k : ℕ). spareTest (recordOf l k) in
+    let c : ℕ → Bool = λ (k : ℕ). phaseTest (recordOf l k) in
+    every-both (λ (k : ℕ). a k && b k && c k) (λ (k : ℕ). a k && b k) c (λ (k : ℕ). refl) count
+    ∙ ap (λ (t : Bool). t && every count c) (every-both (λ (k : ℕ). a k && b k) a b (λ (k : ℕ). refl) count)
+
+-- ---- the records as they are looked at
+-- the part of a block that is lent for a record
+pub part-record : (l : List ℕ) (k o : ℕ) → o ≡ recordStart k → take (o + 32 - o) (drop o l) ≡ recordOf l k
+unfolding recordOf
+part-record l k o e = let f : o + 32 - o ≡ 32 = omega arith in rw (f, e)
+
+or-zero : (a x : ℕ) → eqb (bitOr a x) 0 ≡ (eqb a 0 && eqb x 0)
+or-zero a x = alike-eqb (bitOr a x) (a + x) (alike-or a a x (λ (e : a ≡ 0). e, λ (e : a ≡ 0). e)) ∙ go (eqb a 0) refl
+  where
+    go : (t : Bool) → eqb a 0 ≡ t → eqb (a + x) 0 ≡ (t && eqb x 0)
+    go true e = let f : a + x ≡ x = omega (arith, eqb-true a 0 e) in ap (λ (y : ℕ). eqb y 0) f
+    go false e = let f : a ≡ 0 → ⊥ = eqb-false a 0 e in ne-eqb (a + x) 0 (λ (g : a + x ≡ 0). f (omega arith))
+
+-- one record more
+pub looked-more : (f l : List ℕ) (k : ℕ) (right : Bool) (spare phases : ℕ) → Looked f l k right spare phases
+    → Looked f l (k + 1) (right && frontTest f (recordOf l k)) (bitOr spare (numAt 4 (recordOf l k) 12)) (bitOr phases (numAt 4 (recordOf l k) 4))
+looked-more f l k right spare phases h = (
+  rw (every-turn, h .0),
+  rw (every-turn, or-zero spare (numAt 4 (recordOf l k) 12), h .1),
+  λ (i : ℕ) (b : i < k + 1). most i b (decLt i k),
+)
+  where
+    most : (i : ℕ) → i < k + 1 → Dec (i < k) → numAt 4 (recordOf l i) 4 ≤ bitOr phases (numAt 4 (recordOf l k) 4)
+    most i b (yes a) = omega (arith, h .2 i a, or-add-and phases (numAt 4 (recordOf l k) 4), and-le-r phases (numAt 4 (recordOf l k) 4))
+    most i b (no a) = let e : i ≡ k = omega arith in rw e (omega (arith, or-add-and phases (numAt 4 (recordOf l k) 4), and-le-l phases (numAt 4 (recordOf l k) 4)))
+
+-- the records by what is seen of them, and their phases one by one
+pub looked-each : (f l : List ℕ) (count : ℕ) (right : Bool) (spare phases : ℕ) → Looked f l count right spare phases
+    → (t : Bool) → t ≡ every count (λ (k : ℕ). phaseTest (recordOf l k)) → (right && eqb spare 0 && t) ≡ every count (λ (k : ℕ). recordTest f (recordOf l k))
+looked-each f l count right spare phases h t e = rw (records-split f l count, h .0, h .1, e)
+
+-- joined phases that are low enough
+pub looked-low : (f l : List ℕ) (count : ℕ) (right : Bool) (spare phases : ℕ) → Looked f l count right spare phases → phases ≤ 999999
+    → (right && eqb spare 0) ≡ every count (λ (k : ℕ). recordTest f (recordOf l k))
+looked-low f l count right spare phases h g =
+    let low : every count (λ (k : ℕ). phaseTest (recordOf l k)) ≡ true =
+    every-of count (λ (k : ℕ). phaseTest (recordOf l k)) (λ (k : ℕ) (b : k < count). le-leb (numAt 4 (recordOf l k) 4) 999999 (omega (arith, h .2 k b))) in
+    sym (and-true (right && eqb spare 0)) ∙ looked-each f l count right spare phases h true (sym low)
 
 -- ---- a block
 module _ (l : List ℕ) (sized : length l ≡ 512) (bytes : AreBytes l) where

@@ -1,6 +1,6 @@
 -- The records of a block tested together, as the code does it: their counts by columns, their first bytes by a table. The test itself is in
 -- Archive. Assumes nothing.
-use Prim.Native.Nat.{ℕ, _+_, _*_, _/_, _%_, _<_}
+use Prim.Native.Nat.{ℕ, _+_, _*_, _/_, _%_, _<_, _≤_}
 use mathlib.Core.Path.{_≡_}
 use mathlib.Core.List.{List, []}
 use mathlib.Core.Bool.{Bool, not, _&&_, cond}
@@ -9,6 +9,7 @@ use lib.ListN.{getD}
 use Rattle.codec.specs.Num.{numAt}
 use Rattle.codec.specs.Every.{every}
 use Rattle.clock.specs.Range.{ceilingOf}
+use Rattle.entries.specs.Entries.{recordOf}
 
 -- ---- the counts
 -- the count of station i in place k of a block
@@ -20,29 +21,43 @@ unfoldable pub countsTest : ℕ → ℕ → List ℕ → Bool
 countsTest n t l = every 8 (λ (i : ℕ). every 15 (λ (k : ℕ). leb (countAt l i k) (ceilingOf n t i)))
 
 -- ---- the first bytes
--- a record of a kind may stand with a station and a peer, of which p is the last three bits
+-- a sent (2) or received (3) record may stand with a station and a peer
 unfoldable pub mayStand : ℕ → List (List ℕ) → ℕ → ℕ → ℕ → Bool
 mayStand n m kind s p =
-    cond (eqb kind 1)
-    (eqb p 7 && ltb s n)
-    (ltb s n && (ltb p n && not (eqb s p)) && cond (eqb kind 2) (ltb 0 (getD (getD m s []) p 0)) (eqb kind 3 && ltb 0 (getD (getD m p []) s 0)))
+    ltb s n && (ltb p n && not (eqb s p)) && cond (eqb kind 2) (ltb 0 (getD (getD m s []) p 0)) (eqb kind 3 && ltb 0 (getD (getD m p []) s 0))
 
--- what stands in place i of the table: the first four bytes of that record as a number, or a number whose kind is another
+-- where a record's first four bytes, as a number, are looked up: the product brings kind, peer and station together, and a byte of
+-- kind * 64 + peer * 8 + station is left, which for an own record is 56 + station
+unfoldable pub placeOf : ℕ → ℕ
+placeOf x = x * 1073809408 / 16777216 % 256
+
+-- what stands in place i of the table: the first four bytes of that record as a number, or a number that is looked up elsewhere
 unfoldable pub frontOf : ℕ → List (List ℕ) → ℕ → ℕ
 frontOf n m i =
-    cond (mayStand n m (i % 4) (i / 32) (i / 4 % 8))
-    (i % 4 + 256 * (i / 32) + 65536 * cond (eqb (i % 4) 1) 255 (i / 4 % 8))
-    (cond (eqb (i % 4) 1) 2 1)
+    cond (eqb (i / 8) 7)
+    (cond (ltb (i % 8) n) (16711681 + 256 * (i % 8)) 0)
+    (cond (mayStand n m (i / 64) (i % 8) (i / 8 % 8)) (i / 64 + (256 * (i % 8) + 65536 * (i / 8 % 8))) 458752)
 
 abbrev pub Fronts : ℕ → List (List ℕ) → List ℕ → Type 0
 Fronts n m f = (i : ℕ) → i < 256 → getD f i 0 ≡ frontOf n m i
 
--- where a record's first bytes are looked up
-abbrev pub placeOf : List ℕ → ℕ
-placeOf l = (getD l 1 0 % 8 * 8 + getD l 2 0 % 8) * 4 + getD l 0 0 % 4
+-- ---- a record
+-- its first bytes stand where they are looked up, and its station has a count
+unfoldable pub frontTest : List ℕ → List ℕ → Bool
+frontTest f l =
+    eqb (getD f (placeOf (numAt 4 l 0)) 0) (numAt 4 l 0) && leb 1 (numAt 2 l (16 + 2 * (placeOf (numAt 4 l 0) % 8)))
 
--- the first bytes, the spare ones, the phase, and the station's own count
+abbrev pub spareTest : List ℕ → Bool
+spareTest l = eqb (numAt 4 l 12) 0
+
+abbrev pub phaseTest : List ℕ → Bool
+phaseTest l = leb (numAt 4 l 4) 999999
+
 unfoldable pub recordTest : List ℕ → List ℕ → Bool
-recordTest f l =
-    eqb (getD f (placeOf l) 0) (numAt 4 l 0)
-    && (eqb (numAt 4 l 12) 0 && (leb (numAt 4 l 4) 999999 && leb 1 (numAt 2 l (16 + 2 * (getD l 1 0 % 8)))))
+recordTest f l = frontTest f l && spareTest l && phaseTest l
+
+-- what is gathered of the first k records of a block; no phase is above what they are joined to
+abbrev pub Looked : List ℕ → List ℕ → ℕ → Bool → ℕ → ℕ → Type 0
+Looked f l k right spare phases =
+    (right ≡ every k (λ (i : ℕ). frontTest f (recordOf l i))) × (eqb spare 0 ≡ every k (λ (i : ℕ). spareTest (recordOf l i)))
+    × ((i : ℕ) → i < k → numAt 4 (recordOf l i) 4 ≤ phases)

@@ -8,7 +8,7 @@ ghost use Rattle.codec.specs.Every.{every};
 ghost use Rattle.header.specs.Header.{parseHeader, tableAt};
 ghost use Rattle.entries.specs.Entries.{numberOf, recordOf};
 ghost use Rattle.archive.specs.Archive.{blockFits, blocksFit, archiveTest, records as recordsOf, recordAt, countRecords, findRecord, foundRecord};
-ghost use Rattle.archive.specs.Sweep.{countAt, countsTest, Fronts, recordTest};
+ghost use Rattle.archive.specs.Sweep.{countAt, countsTest, Fronts, placeOf, frontTest, phaseTest, recordTest, Looked};
 
 // How many records an archive has, or a refusal's number.
 pub enum Counted {
@@ -58,57 +58,109 @@ fn front(stands: bool, x: usize, other: u32) -> u32
     if stands { x as u32 } else { other }
 }
 
-// The first four bytes of the records that a header allows, as numbers, in the places that a record's kind, station and
-// peer lead to; elsewhere a number whose kind is another.
+// The first four bytes of the records that a header allows, as numbers, each in the place where it is looked up; elsewhere
+// a number that is looked up in another place.
 fn fronts(head: &[u8], n: u8) -> [u32; 256]
     requires { ⌜ length (now head) ≡ 512 ⌝ }
     ensures { λ r. ⌜ Fronts n (tableAt 8 (now (head .entry)) 32) r ⌝ }
 {
     let top = wide(n);
-    let mut r: [u32; 256] = [1; 256];
-    let mut j = 0;
-    while j < 64 {
-        let s = j / 8;
-        let p = j % 8;
-        let both = (s < top) & ((p < top) & (s != p));
-        r[4 * j + 1] = front((p == 7) & (s < top), 16711681 + 256 * s, 2);
-        r[4 * j + 2] = front(both & (0 < head[32 + j]), 2 + 256 * s + 65536 * p, 1);
-        r[4 * j + 3] = front(
-            both & (0 < head[32 + (p * 8 + s)]),
-            3 + 256 * s + 65536 * p,
-            1,
-        );
-        j += 1;
+    let mut r: [u32; 256] = [458752; 256];
+    let mut p = 0;
+    while p < 8 {
+        r[56 + p] = front(p < top, 16711681 + 256 * p, 0);
+        let mut s = 0;
+        while s < 8 {
+            let j = p * 8 + s;
+            let both = (s < top) & ((p < top) & (s != p));
+            let x = 256 * s + 65536 * p;
+            r[128 + j] = front(both & (0 < head[32 + (s * 8 + p)]), 2 + x, 458752);
+            r[192 + j] = front(both & (0 < head[32 + j]), 3 + x, 458752);
+            s += 1;
+        }
+        p += 1;
     }
     r
 }
 
-// A record is well made and names only what the header has, but for its counts.
-fn record_fits(known: &[u32; 256], part: &[u8]) -> bool
-    requires { ⌜ length (now part) ≡ 32 ⌝ }
-    ensures { λ r. ⌜ r ≡ recordTest (now (known .entry)) (now (part .entry)) ⌝ }
+// Where a record's first four bytes are looked up.
+fn place_of(x: u32) -> usize
+    ensures { λ r. ⌜ (r ≡ placeOf x) × (r < 256) ⌝ }
 {
-    let i = wide(part[1]) % 8;
-    let at = (i * 8 + wide(part[2]) % 8) * 4 + wide(part[0]) % 4;
-    (known[at] == codec::get32(part, 0))
-        & ((codec::get32(part, 12) == 0)
-            & ((codec::get32(part, 4) <= 999999) & (1 <= codec::get16(part, 16 + 2 * i))))
+    let y = x as u64;
+    (y * 1073809408 / 16777216 % 256) as usize
 }
 
-// The same of the first `count` records of a block.
-fn records_fit(known: &[u32; 256], block: &[u8], count: usize) -> bool
+// A record's first four bytes are right, and its station has a count.
+fn front_fits(known: &[u32; 256], part: &[u8]) -> bool
+    requires { ⌜ length (now part) ≡ 32 ⌝ }
+    ensures { λ r. ⌜ r ≡ frontTest (now (known .entry)) (now (part .entry)) ⌝ }
+{
+    let x = codec::get32(part, 0);
+    let at = place_of(x);
+    (known[at] == x) & (1 <= codec::get16(part, 16 + 2 * (at % 8)))
+}
+
+// What is seen of a block's records, gathered with no branch: spare bytes and phases joined by `|`.
+struct Seen {
+    right: bool,
+    spare: u32,
+    phases: u32,
+}
+
+// The first `count` records of a block.
+fn look(known: &[u32; 256], block: &[u8], count: usize) -> Seen
     requires { ⌜ (length (now block) ≡ 512) × (count ≤ 15) ⌝ }
-    ensures { λ r. ⌜ r ≡ every count (λ (k : ℕ). recordTest (now (known .entry)) (recordOf (now (block .entry)) k)) ⌝ }
+    ensures { λ r. ⌜ Looked (now (known .entry)) (now (block .entry)) count (r .right) (r .spare) (r .phases) ⌝ }
+{
+    let mut right = true;
+    let mut spare: u32 = 0;
+    let mut phases: u32 = 0;
+    let mut k = 0;
+    while k < count {
+        let o = entries::start_of(k);
+        let e = o + 32;
+        let part = &block[o..e];
+        right = right & front_fits(known, part);
+        spare = spare | codec::get32(part, 12);
+        phases = phases | codec::get32(part, 4);
+        k += 1;
+    }
+    Seen {
+        right,
+        spare,
+        phases,
+    }
+}
+
+// The phases of the first `count` records, one by one.
+fn phases_fit(block: &[u8], count: usize) -> bool
+    requires { ⌜ (length (now block) ≡ 512) × (count ≤ 15) ⌝ }
+    ensures { λ r. ⌜ r ≡ every count (λ (k : ℕ). phaseTest (recordOf (now (block .entry)) k)) ⌝ }
 {
     let mut ok = true;
     let mut k = 0;
     while k < count {
         let o = entries::start_of(k);
         let e = o + 32;
-        ok = ok & record_fits(known, &block[o..e]);
+        ok = ok & (codec::get32(&block[o..e], 4) <= 999999);
         k += 1;
     }
     ok
+}
+
+// The first `count` records of a block are well made and name only what the header has, but for their counts. No phase is
+// above all of them joined, so that they are looked at one by one only where that is too high.
+fn records_fit(known: &[u32; 256], block: &[u8], count: usize) -> bool
+    requires { ⌜ (length (now block) ≡ 512) × (count ≤ 15) ⌝ }
+    ensures { λ r. ⌜ r ≡ every count (λ (k : ℕ). recordTest (now (known .entry)) (recordOf (now (block .entry)) k)) ⌝ }
+{
+    let seen = look(known, block, count);
+    let fit = seen.right & (seen.spare == 0);
+    if seen.phases <= 999999 {
+        return fit;
+    }
+    fit & phases_fit(block, count)
 }
 
 fn number_of(block: &[u8]) -> usize

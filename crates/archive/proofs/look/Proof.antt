@@ -1,0 +1,86 @@
+use Prim.Native.Nat.{ℕ, _+_, _-_, _≤_, _<_}
+use mathlib.Core.Path.{_≡_, refl, sym}
+use native.Mathlib.Omega.{arith}
+use denote.Ref.{now}
+use lib.ListN.{length-take, length-drop}
+use Rattle.codec.proofs.EveryLaws.{every-none}
+use Rattle.entries.proofs.Laws.{start-is}
+use Rattle.archive.specs.Sweep.{Looked}
+use Rattle.archive.proofs.SweepLaws.{part-record, looked-more}
+use Rattle.archive.proofs.look.Statement.{statement}
+use Rattle.archive.proofs.look.Tie as tie
+
+abbrev Inv-loop : tie.InvT-loop
+Inv-loop known block count right₀ spare₀ phases₀ k₀ right spare phases k = (k ≤ count) × Looked known block k right spare phases
+
+abbrev μ-loop : tie.MeasureT-loop
+μ-loop known block count right₀ spare₀ phases₀ k₀ right spare phases k = count - k
+
+loop-holds : tie.Need-loop-holds Inv-loop μ-loop
+loop-holds c = (omega arith, (sym (every-none _), sym (every-none _), λ (i : ℕ) (b : i < 0). absurd (omega arith)))
+
+start-of-requires : tie.Need-start-of-requires Inv-loop μ-loop
+start-of-requires c κs = omega arith
+
+add-e : tie.Need-add-e Inv-loop μ-loop
+add-e c = omega (arith, start-is (c .before .before .loop .k) (omega arith), c .start-of .ensures)
+
+sub-part : tie.Need-sub-part Inv-loop μ-loop
+sub-part c = omega arith
+
+part-part-start : tie.Need-part-part-start Inv-loop μ-loop
+part-part-start c = omega arith
+
+part-part-end : tie.Need-part-part-end Inv-loop μ-loop
+part-part-end c = omega (arith, start-is (c .before .before .loop .k) (omega arith), c .start-of .ensures)
+
+front-fits-requires : tie.Need-front-fits-requires Inv-loop μ-loop
+front-fits-requires c κs = simp (length-take, length-drop) (omega (arith, start-is (c .before .before .before .loop .k) (omega arith), c .before .start-of .ensures))
+
+get32-requires : tie.Need-get32-requires Inv-loop μ-loop
+get32-requires c κs = simp (length-take, length-drop) (omega (arith, start-is (c .before .before .before .before .loop .k) (omega arith), c .before .before .start-of .ensures))
+
+get32-requires-2 : tie.Need-get32-requires-2 Inv-loop μ-loop
+get32-requires-2 c κs = simp (length-take, length-drop) (omega (arith, start-is (c .before .before .before .before .before .loop .k) (omega arith), c .before .before .before .start-of .ensures))
+
+add-k : tie.Need-add-k Inv-loop μ-loop
+add-k c = omega arith
+
+loop-less : tie.Need-loop-less Inv-loop μ-loop
+loop-less c = omega arith
+
+loop-again : tie.Need-loop-again Inv-loop μ-loop
+loop-again c =
+    let l = c .before .before .before .before .before .before .loop in
+    let a = c .before .before .before .before .before .before .before .before .args in
+    let o = c .before .before .before .before .start-of in
+    let p = part-record (now (a .block)) (l .k) (o .result) (o .ensures) in
+    let f = rw p at (c .before .before .front-fits .ensures) in
+    let s = rw p at (c .before .get32 .ensures) in
+    let t = rw p at (c .get322 .ensures) in
+    (omega arith, rw (f, s, t) (looked-more (now (a .known)) (now (a .block)) (l .k) (l .right) (l .spare) (l .phases) (l .inv .1)))
+
+returns : tie.Need-returns Inv-loop μ-loop
+returns c =
+    let e : c .before .loop .k ≡ c .before .before .before .args .count = omega arith in
+    rw e at (c .before .loop .inv .1)
+
+pub look-spec : {M : Type 1} → statement M
+look-spec =
+    tie.close
+    (tie.spec
+    Inv-loop
+    μ-loop
+    loop-holds
+    start-of-requires
+    add-e
+    sub-part
+    part-part-start
+    part-part-end
+    front-fits-requires
+    get32-requires
+    get32-requires-2
+    add-k
+    loop-less
+    loop-again
+    returns)
