@@ -10,7 +10,7 @@ use lib.Dec.{eqb, leb, ltb}
 use lib.Bits.{bitOr, or-add-and, and-le-l, and-le-r}
 use lib.ListN.{length, getD, take, drop, length-take, length-drop}
 use lib.Seq.{getD-take, getD-drop}
-use borrow.Author.Tests.{eq-eqb, ne-eqb, eqb-true, eqb-false, ltb-true, lt-ltb, le-leb}
+use borrow.Author.Tests.{eq-eqb, eqb-true, ltb-true, lt-ltb, le-leb}
 use Rattle.codec.specs.Num.{AreBytes, numAt, numsAt}
 use Rattle.codec.specs.Every.{every, total}
 use Rattle.codec.proofs.EveryLaws.{both, join, every-at, every-of, every-same, alike-or, alike-eqb}
@@ -22,7 +22,7 @@ use Rattle.record.specs.Record.{peerFits, recordFits, parseRecord, wellMadeReco
 use Rattle.record.proofs.Laws.{well-made-parts}
 use Rattle.entries.specs.Starts.{recordStart, recordsEnd}
 use Rattle.entries.specs.Entries.{countOf, numberOf, recordOf, frontFits, tailFits, bodyFits, wellMadeEntries}
-use Rattle.entries.proofs.Laws.{start-is, end-is, front-parts}
+use Rattle.entries.proofs.Laws.{start-is, end-is, zero-sum, front-parts}
 use Rattle.archive.specs.Archive.{peerKnown, recordKnown, allKnown, blockFits}
 use Rattle.archive.specs.Sweep.{countAt, countsTest, Fronts, placeOf, frontTest, spareTest, phaseTest, recordTest, Looked}
 use Rattle.archive.proofs.FrontLaws.{front-back, front-right}
@@ -173,11 +173,7 @@ unfolding recordOf
 part-record l k o e = let f : o + 32 - o ≡ 32 = omega arith in rw (f, e)
 
 or-zero : (a x : ℕ) → eqb (bitOr a x) 0 ≡ (eqb a 0 && eqb x 0)
-or-zero a x = alike-eqb (bitOr a x) (a + x) (alike-or a a x (λ (e : a ≡ 0). e, λ (e : a ≡ 0). e)) ∙ go (eqb a 0) refl
-  where
-    go : (t : Bool) → eqb a 0 ≡ t → eqb (a + x) 0 ≡ (t && eqb x 0)
-    go true e = let f : a + x ≡ x = omega (arith, eqb-true a 0 e) in ap (λ (y : ℕ). eqb y 0) f
-    go false e = let f : a ≡ 0 → ⊥ = eqb-false a 0 e in ne-eqb (a + x) 0 (λ (g : a + x ≡ 0). f (omega arith))
+or-zero a x = alike-eqb (bitOr a x) (a + x) (alike-or a a x (λ (e : a ≡ 0). e, λ (e : a ≡ 0). e)) ∙ zero-sum a x
 
 -- one record more
 pub looked-more : (f l : List ℕ) (k : ℕ) (right : Bool) (spare phases : ℕ) → Looked f l k right spare phases

@@ -64,7 +64,7 @@ pub fn tail_fits(s: &[u8], count: usize) -> bool
     ensures { λ r. ⌜ r ≡ tailFits (now (s .entry)) count ⌝ }
 {
     let end = start_of(count - 1) + 32;
-    codec::zeros(&s[end..510])
+    codec::zeros(&s[end..496]) & codec::zeros(&s[496..510])
 }
 
 // The records are well made, and zeros follow them.

@@ -1,9 +1,10 @@
 use Prim.Native.Nat.{_-_}
-use mathlib.Core.Path.{_≡_}
+use mathlib.Core.Path.{_≡_, sym}
+use denote.Ref.{now}
 use native.Mathlib.Omega.{arith}
 use borrow.Author.Needs.{needs}
 use Rattle.entries.specs.Starts.{recordStart, recordsEnd}
-use Rattle.entries.proofs.Laws.{start-is}
+use Rattle.entries.proofs.Laws.{start-is, tail-split}
 use Rattle.entries.proofs.tail_fits.Statement.{statement}
 use Rattle.entries.proofs.tail_fits.Tie as tie
 
@@ -28,11 +29,25 @@ part-zeros-end c = search needs
 zeros-requires : tie.Need-zeros-requires
 zeros-requires c κs = search needs
 
+sub-zeros-2 : tie.Need-sub-zeros-2
+sub-zeros-2 c = search needs
+
+part-zeros-start-2 : tie.Need-part-zeros-start-2
+part-zeros-start-2 c = search needs
+
+part-zeros-end-2 : tie.Need-part-zeros-end-2
+part-zeros-end-2 c = search needs
+
+zeros-requires-2 : tie.Need-zeros-requires-2
+zeros-requires-2 c κs = search needs
+
 returns : tie.Need-returns
 unfolding recordsEnd
 returns c =
-    let g : c .before .before .start-of .result ≡ recordStart (c .before .before .before .before .args .count - 1) = c .before .before .start-of .ensures in
-    rw g at (c .zeros .ensures)
+    let a = c .before .before .before .before .before .before .args in
+    let g : c .before .before .before .before .start-of .result ≡ recordStart (a .count - 1) = c .before .before .before .before .start-of .ensures in
+    let t = tail-split (now (a .s)) (recordsEnd (a .count)) (omega (arith, start-is (a .count - 1) (omega arith))) in
+    rw (rw g at (c .before .before .zeros .ensures), c .zeros2 .ensures) (sym t)
 
 pub tail-fits-spec : {M : Type 1} → statement M
 tail-fits-spec =
@@ -45,4 +60,8 @@ tail-fits-spec =
     part-zeros-start
     part-zeros-end
     zeros-requires
+    sub-zeros-2
+    part-zeros-start-2
+    part-zeros-end-2
+    zeros-requires-2
     returns)
