@@ -70,6 +70,14 @@ alike-eqb zero b h = sym (eq-eqb b 0 (h .0 refl))
 alike-eqb (suc a) zero h = absurd (let z : suc a ≡ 0 = h .1 refl in omega arith)
 alike-eqb (suc a) (suc b) h = rw (ne-eqb (suc a) 0 (λ (e : suc a ≡ 0). omega arith), ne-eqb (suc b) 0 (λ (e : suc b ≡ 0). omega arith))
 
+-- two numbers joined by `|` are 0 when both are
+pub or-zero : (a b : ℕ) → eqb (bitOr a b) 0 ≡ (eqb a 0 && eqb b 0)
+or-zero a b = alike-eqb (bitOr a b) (a + b) (alike-or a a b ((λ (e : a ≡ 0). e), (λ (e : a ≡ 0). e))) ∙ sum a b
+  where
+    sum : (x y : ℕ) → eqb (x + y) 0 ≡ (eqb x 0 && eqb y 0)
+    sum zero y = let e : 0 + y ≡ y = omega arith in rw e
+    sum (suc x) y = rw (ne-eqb (suc x + y) 0 (λ (e : suc x + y ≡ 0). omega arith), ne-eqb (suc x) 0 (λ (e : suc x ≡ 0). omega arith))
+
 -- ---- more of `every` and `&&`
 pub both : (a b : Bool) → (a && b) ≡ true → (a ≡ true) × (b ≡ true)
 both true b h = (refl, h)

@@ -89,3 +89,11 @@ nums-back k (x ∷ c) n p q e h =
       ← append-assoc p (bytesOf k x) (numsOf k (length c) c ++ q),
       nums-back k c (n + k) (p ++ bytesOf k x) q b (h .1),
     )
+
+-- number i of n numbers of k bytes each
+pub nums-get : (k n : ℕ) (l : List ℕ) (at i : ℕ) → i < n → getD (numsAt k n l at) i 0 ≡ numAt k l (at + i * k)
+nums-get k zero l at i h = absurd (omega arith)
+nums-get k (suc n) l at zero h = let e : at + 0 * k ≡ at = rw zero-mul (omega arith) in rw e
+nums-get k (suc n) l at (suc i) h =
+    let e : at + k + i * k ≡ at + suc i * k = rw suc-mul (omega arith) in
+    nums-get k n l (at + k) i (omega arith) ∙ rw e

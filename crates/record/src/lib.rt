@@ -1,8 +1,11 @@
 // The 32-byte record of an event: tested, read and written.
 ghost use mathlib.Core.Path.{_≡_};
 ghost use mathlib.Core.List.{[], _∷_};
-ghost use Prim.Native.Nat.{_≤_};
-ghost use lib.ListN.{length};
+ghost use mathlib.Core.Bool.{_&&_, cond};
+ghost use Prim.Native.Nat.{_*_, _≤_, _<_};
+ghost use lib.Dec.{eqb, ltb};
+ghost use lib.ListN.{length, getD};
+ghost use Rattle.codec.specs.Num.{numAt};
 ghost use Rattle.codec.specs.Splice.{splice};
 ghost use Rattle.record.specs.Record.{imageRecord, parseRecord, peerFits, recordFits, wellMadeRecord};
 
@@ -16,10 +19,19 @@ pub struct Record {
     pub counts: [u16; 8],
 }
 
+// The kind, doubled where the peer is 255: 2 or 3 in a record.
+fn doubled(kind: u8, peer: u8) -> u16
+    ensures { λ r. ⌜ r ≡ cond (eqb peer 255) (2 * kind) kind ⌝ }
+{
+    let k = kind as u16;
+    if peer == 255 { 2 * k } else { k }
+}
+
 fn peer_fits(kind: u8, station: u8, peer: u8) -> bool
+    requires { ⌜ station < 8 ⌝ }
     ensures { λ r. ⌜ r ≡ peerFits kind station peer ⌝ }
 {
-    ((kind == 1) & (peer == 255)) | (((kind == 2) | (kind == 3)) & ((peer < 8) & (peer != station)))
+    (peer != station) & ((doubled(kind, peer) / 2 == 1) & ((peer < 8) | (peer == 255)))
 }
 
 // Every field is in its range.
@@ -74,6 +86,20 @@ pub fn store(d: &mut [u8], r: Record)
     codec::put_row(d, 16, counts);
 }
 
+fn wide(x: u8) -> u32
+    ensures { λ r. ⌜ r ≡ x ⌝ }
+{
+    x as u32
+}
+
+// The spare bytes, and what of the station is above 7, joined: 0 in a record.
+fn spare(s: &[u8]) -> u32
+    requires { ⌜ 32 ≤ length (now s) ⌝ }
+    ensures { λ r. ⌜ eqb r 0 ≡ (eqb (getD (now (s .entry)) 3 0) 0 && (eqb (numAt 4 (now (s .entry)) 12) 0 && ltb (getD (now (s .entry)) 1 0) 8)) ⌝ }
+{
+    wide(s[3]) | (codec::get32(s, 12) | wide(s[1] / 8))
+}
+
 // The bytes are a record: its length, its spare bytes and its fields are right.
 pub fn well_made(s: &[u8]) -> bool
     ensures { λ q. ⌜ q ≡ wellMadeRecord (now (s .entry)) ⌝ }
@@ -81,5 +107,13 @@ pub fn well_made(s: &[u8]) -> bool
     if s.len() != 32 {
         return false;
     }
-    (s[3] == 0) & ((codec::get32(s, 12) == 0) & record_fits(load(s)))
+    if spare(s) != 0 {
+        return false;
+    }
+    let station = s[1];
+    if !peer_fits(s[0], station, s[2]) {
+        return false;
+    }
+    let i = station as usize;
+    (codec::get32(s, 4) <= 999999) & (1 <= codec::get16(s, 16 + i * 2))
 }

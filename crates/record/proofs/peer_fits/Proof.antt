@@ -1,11 +1,13 @@
-use mathlib.Core.Path.{refl}
-use Rattle.record.specs.Record.{peerFits}
+use Rattle.record.proofs.Laws.{peer-law}
+use borrow.Author.Needs.{needs}
 use Rattle.record.proofs.peer_fits.Statement.{statement}
 use Rattle.record.proofs.peer_fits.Tie as tie
 
+doubled-requires : tie.Need-doubled-requires
+doubled-requires c κs = search needs
+
 returns : tie.Need-returns
-unfolding peerFits
-returns c = refl
+returns c = let a = c .before .args in rw (c .doubled .ensures) (peer-law (a .kind) (a .station) (a .peer) (c .before .pre))
 
 pub peer-fits-spec : {M : Type 1} → statement M
-peer-fits-spec = tie.close (tie.spec returns)
+peer-fits-spec = tie.close (tie.spec doubled-requires returns)
