@@ -9,10 +9,14 @@ pub enum Compared {
     Refused(u8),
 }
 
-// How the first event stands to the second, by timestamp order: 1, then 10, or the verdict.
+// How the first event stands to the second, by timestamp order: 1, then 10, or the verdict. Both lengths are tested at
+// once, so that what follows has no test of a length between the tests of the two records.
 pub fn compare(first: &[u8], second: &[u8]) -> Compared
     ensures { λ r. ⌜ r ≡ verdictOn (now (first .entry)) (now (second .entry)) ⌝ }
 {
+    if (first.len() != 32) | (second.len() != 32) {
+        return Compared::Refused(1);
+    }
     if !record::well_made(first) {
         return Compared::Refused(1);
     }
