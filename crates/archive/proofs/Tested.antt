@@ -1,12 +1,13 @@
 -- The records of a tested archive. Assumes nothing.
-use Prim.Native.Nat.{ℕ, _+_, _*_, _-_, _/_, _%_, _≤_, _<_}
+use Prim.Native.Nat.{ℕ, _+_, _*_, _-_, _/_, _%_, min, _≤_, _<_}
 use mathlib.Core.Path.{_≡_, refl, sym}
+use mathlib.Core.Logic.{_≢_}
 use mathlib.Core.List.{List}
 use mathlib.Core.Bool.{Bool, true, false, _||_, cond}
 use native.Mathlib.Omega.{arith}
 use lib.Dec.{eqb}
 use lib.ListN.{length}
-use borrow.Author.Tests.{eqb-true, eqb-false, lt-ltb}
+use borrow.Author.Tests.{eqb-true, eqb-false, ne-eqb, lt-ltb}
 use Rattle.codec.specs.Every.{every}
 use Rattle.codec.proofs.EveryLaws.{both, every-at}
 use Rattle.codec.proofs.SpliceLaws.{part-part}
@@ -36,6 +37,36 @@ module _ (a : List ℕ) (tested : archiveTest a ≡ true) where
       go : (t : Bool) → eqb (b + 1) (blocks a) ≡ t → (t || eqb (countOf (blockOf a b)) 15) ≡ true → eqb (countOf (blockOf a b)) 15 ≡ true
       go true e h = absurd (n (eqb-true _ _ e))
       go false e h = h
+
+  -- no block has more than fifteen
+  pub records-most : records a ≤ blocks a * 15
+  unfolding records
+  records-most = go (eqb (blocks a) 0) refl
+    where
+      go : (t : Bool) → eqb (blocks a) 0 ≡ t → cond t 0 ((blocks a - 1) * 15 + countOf (blockOf a (blocks a - 1))) ≤ blocks a * 15
+      go true e = omega arith
+      go false e =
+          let n : blocks a ≡ 0 → ⊥ = eqb-false _ _ e in
+          let p : 1 ≤ blocks a = omega arith in
+          omega (arith, well-made-count (blockOf a (blocks a - 1)) (block-parts a tested (blocks a - 1) (omega arith) .0) .1)
+
+  -- the numbers of the records of a block
+  pub block-numbers : (b : ℕ) → b < blocks a → (b * 15 ≤ records a) × (b * 15 + countOf (blockOf a b) ≡ min ((b + 1) * 15) (records a)) × (countOf (blockOf a b) ≤ 15)
+  unfolding records
+  block-numbers b l = go (eqb (b + 1) (blocks a)) refl
+    where
+      last : blocks a ≢ 0
+      last e = omega arith
+
+      go : (t : Bool) → eqb (b + 1) (blocks a) ≡ t → (b * 15 ≤ records a) × (b * 15 + countOf (blockOf a b) ≡ min ((b + 1) * 15) (records a)) × (countOf (blockOf a b) ≤ 15)
+      go true e =
+          let f : b ≡ blocks a - 1 = omega (arith, eqb-true (b + 1) (blocks a) e) in
+          let w = well-made-count (blockOf a (blocks a - 1)) (block-parts a tested (blocks a - 1) (omega arith) .0) in
+          rw (ne-eqb (blocks a) 0 last, f) (omega arith, omega arith, w .1)
+      go false e =
+          let n : b + 1 ≡ blocks a → ⊥ = eqb-false _ _ e in
+          let f = full b l n in
+          rw (ne-eqb (blocks a) 0 last) (omega arith, omega arith, omega arith)
 
   module _ (k : ℕ) (below : k < records a) where
     in-blocks : k / 15 < blocks a

@@ -1,12 +1,12 @@
 -- Concurrent records of an archive: the relation, its lists, and the verdict by numbers. Assumes nothing.
-use Prim.Native.Nat.{ℕ, _≤_, _<_}
-use mathlib.Core.Path.{_≡_, refl, _∙_, sym}
+use Prim.Native.Nat.{ℕ, min, _+_, _*_, _-_, _/_, _%_, _≤_, _<_}
+use mathlib.Core.Path.{_≡_, refl, _∙_, sym, ap}
 use mathlib.Core.Logic.{_↔_}
 use mathlib.Core.List.{List, List·Memᴰ}
 use mathlib.Core.Bool.{Bool, true, false, _&&_, cond, and-false, true≢false}
 use native.Mathlib.Omega.{arith}
 use lib.Dec.{eqb, ltb}
-use lib.ListN.{length, getD}
+use lib.ListN.{length, getD, take, drop, length-take, length-drop}
 use borrow.Author.Tests.{eqb-true, eqb-false, ltb-true, ltb-false, lt-ltb, eq-eqb, ne-eqb}
 use Rattle.codec.proofs.EveryLaws.{both, every-of}
 use Rattle.clock.specs.Timestamp.{Less}
@@ -14,15 +14,17 @@ use Rattle.clock.specs.Order.{sameAt, sameCounts, verdictOf, mirror}
 use Rattle.clock.specs.declared.Verdict.{Verdict}
 use Rattle.clock.specs.declared.Verdict.the-variants.{Before, After, Same, Unordered}
 use Rattle.clock.proofs.OrderLaws.{verdict-mirror, verdict-unordered}
+use Rattle.record.specs.Record.{parseRecord}
 use Rattle.record.specs.declared.Record.{Record}
-use Rattle.archive.specs.Archive.{archiveTest, records, recordAt, findRecord, foundRecord}
+use Rattle.entries.specs.Entries.{countOf, recordOf}
+use Rattle.archive.specs.Archive.{blockOf, blocks, archiveTest, records, recordAt, findRecord, foundRecord}
 use Rattle.verdict.specs.Compare.{verdictOn, verdictOfBytes}
 use Rattle.verdict.specs.declared.Compared.the-variants.{Ordered, Refused}
 use Rattle.concurrent.specs.Unordered.{eventAt, isUnorderedVerdict, concurrent, isUnordered, countBelow, unorderedCount, unorderedAnswer, Lists}
 use Rattle.concurrent.specs.ByNumber.{orderOf}
 use Rattle.concurrent.specs.declared.Listed.the-variants.{Count}
 use Rattle.concurrent.specs.declared.Listed.the-variants as listed
-use Rattle.archive.proofs.Tested.{record-well-made}
+use Rattle.archive.proofs.Tested.{records-most, block-numbers, record-place, record-well-made}
 use Rattle.concurrent.proofs.Below.{passing, passing-length, passing-members, passing-once, count-room, Filled}
 
 -- ---- two events
@@ -83,6 +85,32 @@ unordered-is a r k l = rw (lt-ltb _ _ l)
 -- as the code finds it out, from the two records that it read
 pub unordered-read : (a : List ℕ) (r k : ℕ) (x y : Record) (b : Bool) → k < records a → x ≡ eventAt a r → y ≡ eventAt a k → b ≡ concurrent x y → isUnordered a r k ≡ b
 unordered-read a r k x y b l e f g = rw (unordered-is a r k l, ← e, ← f) (sym g)
+
+-- ---- block by block
+-- the part of an archive that is lent for a block
+pub block-part : (a : List ℕ) (b : ℕ) → take ((b + 1) * 512 + 512 - (b + 1) * 512) (drop ((b + 1) * 512) a) ≡ blockOf a b
+unfolding blockOf
+block-part a b = let e : (b + 1) * 512 + 512 - (b + 1) * 512 ≡ 512 = omega arith in rw e
+
+-- and that for a record of it
+pub part-long : (l : List ℕ) (s : ℕ) → s + 32 ≤ length l → 32 ≤ length (take (s + 32 - s) (drop s l))
+part-long l s h = simp (length-take, length-drop) (omega arith)
+
+-- the blocks have all records
+pub all-blocks : (a : List ℕ) → archiveTest a ≡ true → min ((length a / 512 - 1) * 15) (records a) ≡ records a
+unfolding blocks
+all-blocks a t = omega (arith, records-most a t)
+
+-- record k of block b, as the code finds it out
+pub unordered-place : (a : List ℕ) (r b k : ℕ) → archiveTest a ≡ true → b < blocks a → k < countOf (blockOf a b) → (x y : Record) (v : Bool)
+    → x ≡ eventAt a r → y ≡ parseRecord (recordOf (blockOf a b) k) → v ≡ concurrent x y → isUnordered a r (b * 15 + k) ≡ v
+unfolding eventAt
+unordered-place a r b k t h l x y v e f g =
+    let n = block-numbers a t b h in
+    let below : b * 15 + k < records a = omega (arith, n .1) in
+    let i : (b * 15 + k) / 15 ≡ b = omega (arith, n .2) in
+    let j : (b * 15 + k) % 15 ≡ k = omega (arith, n .2) in
+    unordered-read a r (b * 15 + k) x y v below e (f ∙ ap parseRecord (sym (rw (i, j) at (record-place a t (b * 15 + k) below)))) g
 
 eight-counts : (a : List ℕ) (k : ℕ) → length (eventAt a k .counts) ≡ 8
 unfolding eventAt
