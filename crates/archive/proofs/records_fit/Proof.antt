@@ -1,3 +1,4 @@
+use native.Mathlib.Omega.{arith}
 use denote.Ref.{now}
 use borrow.Author.Needs.{needs}
 use Rattle.archive.proofs.SweepLaws.{looked-each, looked-low}
@@ -11,7 +12,7 @@ returns : tie.Need-returns
 returns c =
     let a = c .before .before .before .before .before .before .args in
     let s = c .before .before .before .before .look in
-    looked-low (now (a .known)) (now (a .block)) (a .count) (s .result .right) (s .result .spare) (s .result .phases) (s .ensures) (c .if1 .taken)
+    looked-low (now (a .known)) (now (a .block)) (a .count) (s .result .right) (s .result .spare) (s .result .phases) (s .ensures) (omega (arith, c .if1 .taken))
 
 phases-fit-requires : tie.Need-phases-fit-requires
 phases-fit-requires c κs = search needs
