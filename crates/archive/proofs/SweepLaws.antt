@@ -172,7 +172,7 @@ pub part-record : (l : List ℕ) (k o : ℕ) → o ≡ recordStart k → take (o
 unfolding recordOf
 part-record l k o e = let f : o + 32 - o ≡ 32 = omega arith in rw (f, e)
 
-or-zero : (a x : ℕ) → eqb (bitOr a x) 0 ≡ (eqb a 0 && eqb x 0)
+pub or-zero : (a x : ℕ) → eqb (bitOr a x) 0 ≡ (eqb a 0 && eqb x 0)
 or-zero a x = alike-eqb (bitOr a x) (a + x) (alike-or a a x (λ (e : a ≡ 0). e, λ (e : a ≡ 0). e)) ∙ zero-sum a x
 
 -- one record more

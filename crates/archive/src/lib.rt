@@ -2,7 +2,7 @@
 ghost use mathlib.Core.Path.{_≡_};
 ghost use mathlib.Core.Bool.{true, cond};
 ghost use Prim.Native.Nat.{ℕ, _≤_, _<_, _+_, _*_, _/_};
-ghost use lib.Dec.{leb};
+ghost use lib.Dec.{eqb, leb};
 ghost use lib.ListN.{length};
 ghost use Rattle.codec.specs.Every.{every};
 ghost use Rattle.header.specs.Header.{parseHeader, tableAt};
@@ -22,18 +22,26 @@ fn wide(x: u8) -> usize
     x as usize
 }
 
-// The counts of station i in the fifteen places of a block are at most m.
+// By how much a count is above m.
+fn above(x: u16, m: u16) -> u16
+    ensures { λ r. ⌜ eqb r 0 ≡ leb x m ⌝ }
+{
+    if m < x { x - m } else { 0 }
+}
+
+// The counts of station i in the fifteen places of a block are at most m. Joined by `|`, which takes one step less for each
+// than comparing.
 fn column_fits(block: &[u8], i: usize, m: u16) -> bool
     requires { ⌜ (length (now block) ≡ 512) × (i < 8) ⌝ }
     ensures { λ r. ⌜ r ≡ every 15 (λ (k : ℕ). leb (countAt (now (block .entry)) i k) m) ⌝ }
 {
-    let mut ok = true;
+    let mut all: u16 = 0;
     let mut k = 0;
     while k < 15 {
-        ok = ok & (codec::get16(block, 32 + k * 32 + 2 * i) <= m);
+        all = all | above(codec::get16(block, 32 + k * 32 + 2 * i), m);
         k += 1;
     }
-    ok
+    all == 0
 }
 
 // Every count in the fifteen places of a block is at most t, and 0 for stations n and above. The stations are vectorised.

@@ -1,19 +1,21 @@
 use Prim.Native.Nat.{ℕ, _-_, _≤_}
 use mathlib.Core.Path.{_≡_, sym}
 use native.Mathlib.Omega.{arith}
-use lib.Dec.{leb}
+use lib.Dec.{eqb, leb}
 use Rattle.codec.specs.Every.{every}
 use Rattle.codec.proofs.EveryLaws.{every-none}
 use Rattle.codec.proofs.FlagLaws.{every-turn}
+use borrow.Author.Needs.{needs}
 use Rattle.archive.specs.Sweep.{countAt}
+use Rattle.archive.proofs.SweepLaws.{or-zero}
 use Rattle.archive.proofs.column_fits.Statement.{statement}
 use Rattle.archive.proofs.column_fits.Tie as tie
 
 abbrev Inv-loop : tie.InvT-loop
-Inv-loop block i m ok₀ k₀ ok k = (k ≤ 15) × (ok ≡ every k (λ (j : ℕ). leb (countAt block i j) m))
+Inv-loop block i m all₀ k₀ all k = (k ≤ 15) × (eqb all 0 ≡ every k (λ (j : ℕ). leb (countAt block i j) m))
 
 abbrev μ-loop : tie.MeasureT-loop
-μ-loop block i m ok₀ k₀ ok k = 15 - k
+μ-loop block i m all₀ k₀ all k = 15 - k
 
 loop-holds : tie.Need-loop-holds Inv-loop μ-loop
 loop-holds c = (omega arith, sym (every-none _))
@@ -33,6 +35,9 @@ add-get16-2 c = omega arith
 get16-requires : tie.Need-get16-requires Inv-loop μ-loop
 get16-requires c κs = omega arith
 
+above-requires : tie.Need-above-requires Inv-loop μ-loop
+above-requires c κs = search needs
+
 add-k : tie.Need-add-k Inv-loop μ-loop
 add-k c = omega arith
 
@@ -40,7 +45,9 @@ loop-less : tie.Need-loop-less Inv-loop μ-loop
 loop-less c = omega arith
 
 loop-again : tie.Need-loop-again Inv-loop μ-loop
-loop-again c = (omega arith, rw (every-turn, c .before .before .loop .inv .1, c .get16 .ensures))
+loop-again c =
+    let l = c .before .before .before .loop in
+    (omega arith, rw (every-turn, or-zero (l .all) (c .above .result), l .inv .1, c .above .ensures, c .before .get16 .ensures))
 
 returns : tie.Need-returns Inv-loop μ-loop
 returns c =
@@ -59,6 +66,7 @@ column-fits-spec =
     mul-get16-2
     add-get16-2
     get16-requires
+    above-requires
     add-k
     loop-less
     loop-again
