@@ -5,7 +5,6 @@ use mathlib.Core.List.{List, [], _∷_}
 use mathlib.Core.Bool.{Bool, true, false, _&&_, _||_, and-false}
 use native.Mathlib.Omega.{arith}
 use native.Mathlib.Decide.{decLt}
-use native.Mathlib.Nat.{zero-mul, suc-mul}
 use lib.Dec.{eqb, leb, ltb}
 use lib.Bits.{bitOr, or-add-and, and-le-l, and-le-r}
 use lib.ListN.{length, getD, take, drop, length-take, length-drop}
@@ -13,6 +12,7 @@ use lib.Seq.{getD-take, getD-drop}
 use borrow.Author.Tests.{eq-eqb, eqb-true, ltb-true, lt-ltb, le-leb}
 use Rattle.codec.specs.Num.{AreBytes, numAt, numsAt}
 use Rattle.codec.specs.Every.{every, total}
+use Rattle.codec.proofs.NumLaws.{nums-get}
 use Rattle.codec.proofs.EveryLaws.{both, join, every-at, every-of, every-same, alike-or, alike-eqb}
 use Rattle.codec.proofs.FlagLaws.{every-turn, every-both}
 use Rattle.codec.proofs.Fronts.{bytes-take, bytes-drop}
@@ -66,11 +66,6 @@ gather w true true false k c f h = rw (and-false (w && true))
 gather w true true true k c f h = rw (and-true w) (h refl ∙ and-comm f c)
 
 -- ---- parts of a block
-nums-get : (k n : ℕ) (l : List ℕ) (at i : ℕ) → i < n → getD (numsAt k n l at) i 0 ≡ numAt k l (at + i * k)
-nums-get k zero l at i h = absurd (omega arith)
-nums-get k (suc n) l at zero h = let e : at + 0 * k ≡ at = rw zero-mul (omega arith) in rw e
-nums-get k (suc n) l at (suc i) h = let e : at + suc i * k ≡ at + k + i * k = rw suc-mul (omega arith) in rw e (nums-get k n l (at + k) i (omega arith))
-
 zero-at : (l : List ℕ) (i : ℕ) → total l ≡ 0 → getD l i 0 ≡ 0
 unfolding total
 zero-at [] i h = refl

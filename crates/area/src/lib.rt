@@ -1,4 +1,4 @@
-// The test of the state area: it reads every byte once, and takes no copy.
+// The test of the state area, where it stands: no state is made of it.
 ghost use mathlib.Core.Path.{_≡_};
 ghost use mathlib.Core.Bool.{true, _&&_};
 ghost use Prim.Native.Nat.{_-_, _*_, _+_, _/_, _%_, _≤_, _<_};

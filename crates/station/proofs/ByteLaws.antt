@@ -4,7 +4,7 @@ use mathlib.Core.Path.{_≡_, refl, _∙_, sym, ap}
 use mathlib.Core.List.{List, []}
 use mathlib.Core.Bool.{Bool, true, false, not, cond, _&&_, _||_, and-false}
 use native.Mathlib.Omega.{arith}
-use native.Mathlib.Nat.{zero-mul, suc-mul, add-suc}
+use native.Mathlib.Nat.{add-suc}
 use native.Mathlib.Numerals.{unary-clauses}
 use lib.Dec.{eqb, leb, ltb}
 use lib.ListN.{getD}
@@ -12,6 +12,7 @@ use borrow.Author.Tests.{eq-eqb, ne-eqb, lt-leb}
 use Rattle.codec.specs.Num.{numAt, numsAt}
 use Rattle.codec.specs.Every.{every}
 use Rattle.codec.specs.Rows.{upto}
+use Rattle.codec.proofs.NumLaws.{nums-get}
 use Rattle.codec.proofs.EveryLaws.{every-same}
 use Rattle.codec.proofs.FlagLaws.{every-both}
 use Rattle.codec.proofs.Stride.{upto-length, upto-at}
@@ -47,12 +48,6 @@ gather true false c n p o s q = rw (and-false s, and-false o, and-false p, and-f
 gather true true c n p o s q = refl
 
 -- ---- fields
--- number i of a row
-nums-get : (k n : ℕ) (l : List ℕ) (at i : ℕ) → i < n → getD (numsAt k n l at) i 0 ≡ numAt k l (at + i * k)
-nums-get k zero l at i h = absurd (omega arith)
-nums-get k (suc n) l at zero h = let e : at + 0 * k ≡ at = rw zero-mul (omega arith) in rw e
-nums-get k (suc n) l at (suc i) h = let e : at + suc i * k ≡ at + k + i * k = rw suc-mul (omega arith) in rw e (nums-get k n l (at + k) i (omega arith))
-
 mode-is : (known : Bool) (b : ℕ) → (leb b 2 && (known || isNormal (modeOf b))) ≡ leb b (cond known 2 0)
 mode-is true b = and-true (leb b 2)
 mode-is false zero = refl
