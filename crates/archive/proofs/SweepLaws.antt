@@ -13,7 +13,7 @@ use borrow.Author.Tests.{eq-eqb, eqb-true, ltb-true, lt-ltb, le-leb}
 use Rattle.codec.specs.Num.{AreBytes, numAt, numsAt}
 use Rattle.codec.specs.Every.{every, total}
 use Rattle.codec.proofs.NumLaws.{nums-get}
-use Rattle.codec.proofs.EveryLaws.{both, join, every-at, every-of, every-same, alike-or, alike-eqb}
+use Rattle.codec.proofs.EveryLaws.{both, join, every-at, every-of, every-same, or-zero}
 use Rattle.codec.proofs.FlagLaws.{every-turn, every-both}
 use Rattle.codec.proofs.Fronts.{bytes-take, bytes-drop}
 use Rattle.clock.specs.Range.{ceilingOf, countsFit}
@@ -22,7 +22,7 @@ use Rattle.record.specs.Record.{peerFits, recordFits, parseRecord, wellMadeReco
 use Rattle.record.proofs.Laws.{well-made-parts}
 use Rattle.entries.specs.Starts.{recordStart, recordsEnd}
 use Rattle.entries.specs.Entries.{countOf, numberOf, recordOf, frontFits, tailFits, bodyFits, wellMadeEntries}
-use Rattle.entries.proofs.Laws.{start-is, end-is, zero-sum, front-parts}
+use Rattle.entries.proofs.Laws.{start-is, end-is, front-parts}
 use Rattle.archive.specs.Archive.{peerKnown, recordKnown, allKnown, blockFits}
 use Rattle.archive.specs.Sweep.{countAt, countsTest, Fronts, placeOf, frontTest, spareTest, phaseTest, recordTest, Looked}
 use Rattle.archive.proofs.FrontLaws.{front-back, front-right}
@@ -166,9 +166,6 @@ records-split f l count =
 pub part-record : (l : List ℕ) (k o : ℕ) → o ≡ recordStart k → take (o + 32 - o) (drop o l) ≡ recordOf l k
 unfolding recordOf
 part-record l k o e = let f : o + 32 - o ≡ 32 = omega arith in rw (f, e)
-
-pub or-zero : (a x : ℕ) → eqb (bitOr a x) 0 ≡ (eqb a 0 && eqb x 0)
-or-zero a x = alike-eqb (bitOr a x) (a + x) (alike-or a a x (λ (e : a ≡ 0). e, λ (e : a ≡ 0). e)) ∙ zero-sum a x
 
 -- one record more
 pub looked-more : (f l : List ℕ) (k : ℕ) (right : Bool) (spare phases : ℕ) → Looked f l k right spare phases

@@ -3,11 +3,10 @@ use mathlib.Core.Path.{_≡_, sym}
 use native.Mathlib.Omega.{arith}
 use lib.Dec.{eqb, leb}
 use Rattle.codec.specs.Every.{every}
-use Rattle.codec.proofs.EveryLaws.{every-none}
+use Rattle.codec.proofs.EveryLaws.{every-none, or-zero}
 use Rattle.codec.proofs.FlagLaws.{every-turn}
 use borrow.Author.Needs.{needs}
 use Rattle.archive.specs.Sweep.{countAt}
-use Rattle.archive.proofs.SweepLaws.{or-zero}
 use Rattle.archive.proofs.column_fits.Statement.{statement}
 use Rattle.archive.proofs.column_fits.Tie as tie
 
