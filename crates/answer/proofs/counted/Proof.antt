@@ -19,20 +19,11 @@ abbrev μ-loop : tie.MeasureT-loop
 loop-holds : tie.Need-loop-holds Inv-loop μ-loop
 loop-holds c = (omega arith, omega arith, omega arith, refl, spaced-none _ (c .before .args .t3) _)
 
-slice-aggregate-word : tie.Need-slice-aggregate-word Inv-loop μ-loop
-slice-aggregate-word c = search needs
-
 word-requires : tie.Need-word-requires Inv-loop μ-loop
 word-requires c κs = let l = c .before .before .before .loop in omega (arith, both-below (l .i) (c .before .before .before .before .before .args .n) (c .before .before .loop-test .taken))
 
-mul-wide : tie.Need-mul-wide Inv-loop μ-loop
-mul-wide c = search needs
-
 array-read-wide : tie.Need-array-read-wide Inv-loop μ-loop
 array-read-wide c = let l = c .before .before .before .before .before .before .before .loop in omega (arith, both-below (l .i) (c .before .before .before .before .before .before .before .before .before .args .n) (c .before .before .before .before .before .before .loop-test .taken))
-
-wide-requires : tie.Need-wide-requires Inv-loop μ-loop
-wide-requires c κs = search needs
 
 number-requires : tie.Need-number-requires Inv-loop μ-loop
 number-requires c κs = let l = c .before .before .before .before .before .before .before .before .loop in omega (arith, both-below (l .i) (c .before .before .before .before .before .before .before .before .before .before .args .n) (c .before .before .before .before .before .before .before .loop-test .taken), length16 (c .wide .result) (c .wide .ensures .1))
@@ -61,9 +52,6 @@ loop-again c =
       rw (spaced-more (a .t3) (l .i) (omega arith), ← v .0) q,
     )
 
-same-length : tie.Need-same-length Inv-loop μ-loop
-same-length c = search needs
-
 returns : tie.Need-returns Inv-loop μ-loop
 returns c =
     let a = c .before .before .before .args in
@@ -77,15 +65,5 @@ counted-spec =
     (tie.spec
     Inv-loop
     μ-loop
-    loop-holds
-    slice-aggregate-word
-    word-requires
-    mul-wide
-    array-read-wide
-    wide-requires
-    number-requires
-    add-i
-    loop-less
-    loop-again
-    same-length
-    returns)
+    loop-holds (λ c. search needs) word-requires (λ c. search needs) array-read-wide
+    (λ c κs. search needs) number-requires add-i loop-less loop-again (λ c. search needs) returns)

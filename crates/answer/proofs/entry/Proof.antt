@@ -5,24 +5,6 @@ use borrow.Author.Needs.{needs}
 use Rattle.answer.proofs.entry.Statement.{statement}
 use Rattle.answer.proofs.entry.Tie as tie
 
-slice-aggregate-opening : tie.Need-slice-aggregate-opening
-slice-aggregate-opening c = search needs
-
-opening-requires : tie.Need-opening-requires
-opening-requires c κs = search needs
-
-counted-requires : tie.Need-counted-requires
-counted-requires c κs = search needs
-
-slice-aggregate-word : tie.Need-slice-aggregate-word
-slice-aggregate-word c = search needs
-
-word-requires : tie.Need-word-requires
-word-requires c κs = search needs
-
-same-length : tie.Need-same-length
-same-length c = search needs
-
 returns : tie.Need-returns
 unfolding entryText
 returns c =
@@ -37,10 +19,5 @@ pub entry-spec : {M : Type 1} → statement M
 entry-spec =
     tie.close
     (tie.spec
-    slice-aggregate-opening
-    opening-requires
-    counted-requires
-    slice-aggregate-word
-    word-requires
-    same-length
-    returns)
+    (λ c. search needs) (λ c κs. search needs) (λ c κs. search needs) (λ c. search needs)
+    (λ c κs. search needs) (λ c. search needs) returns)

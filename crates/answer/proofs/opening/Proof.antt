@@ -17,17 +17,11 @@ word-requires c κs = let s = c .before .before .before .before .before .before 
 number-requires-2 : tie.Need-number-requires-2
 number-requires-2 c κs = let s = c .before .before .before .before .before .before .before .before .before .before .before in omega (arith, length64 (s .args .number) (s .fits .number), length32 (s .args .phase) (s .fits .phase), length8 (s .args .station) (s .fits .station))
 
-slice-aggregate-word : tie.Need-slice-aggregate-word
-slice-aggregate-word c = search needs
-
 word-requires-2 : tie.Need-word-requires-2
 word-requires-2 c κs = let s = c .before .before .before .before .before .before .before .before .before .before .before .before .before .before .before .before in omega (arith, length64 (s .args .number) (s .fits .number), length32 (s .args .phase) (s .fits .phase), length8 (s .args .station) (s .fits .station))
 
 number-requires-3 : tie.Need-number-requires-3
 number-requires-3 c κs = let s = c .before .before .before .before .before .before .before .before .before .before .before .before .before .before .before .before .before .before .before .before in omega (arith, length64 (s .args .number) (s .fits .number), length32 (s .args .phase) (s .fits .phase), length8 (s .args .station) (s .fits .station))
-
-same-length : tie.Need-same-length
-same-length c = search needs
 
 returns : tie.Need-returns
 returns c =
@@ -48,11 +42,5 @@ pub opening-spec : {M : Type 1} → statement M
 opening-spec =
     tie.close
     (tie.spec
-    number-requires
-    word-requires
-    number-requires-2
-    slice-aggregate-word
-    word-requires-2
-    number-requires-3
-    same-length
-    returns)
+    number-requires word-requires number-requires-2 (λ c. search needs) word-requires-2
+    number-requires-3 (λ c. search needs) returns)

@@ -9,23 +9,14 @@ use Rattle.answer.proofs.refused.Tie as tie
 number-requires : tie.Need-number-requires
 number-requires c κs = let s = c .before .before in omega (arith, length64 (s .args .number) (s .fits .number), length8 (s .args .refusal) (s .fits .refusal))
 
-slice-aggregate-word : tie.Need-slice-aggregate-word
-slice-aggregate-word c = search needs
-
 word-requires : tie.Need-word-requires
 word-requires c κs = let s = c .before .before .before .before .before .before .before in omega (arith, length64 (s .args .number) (s .fits .number), length8 (s .args .refusal) (s .fits .refusal))
 
 number-requires-2 : tie.Need-number-requires-2
 number-requires-2 c κs = let s = c .before .before .before .before .before .before .before .before .before .before .before in omega (arith, length64 (s .args .number) (s .fits .number), length8 (s .args .refusal) (s .fits .refusal))
 
-slice-aggregate-word-2 : tie.Need-slice-aggregate-word-2
-slice-aggregate-word-2 c = search needs
-
 word-requires-2 : tie.Need-word-requires-2
 word-requires-2 c κs = let s = c .before .before .before .before .before .before .before .before .before .before .before .before .before .before .before .before in omega (arith, length64 (s .args .number) (s .fits .number), length8 (s .args .refusal) (s .fits .refusal))
-
-same-length : tie.Need-same-length
-same-length c = search needs
 
 returns : tie.Need-returns
 unfolding refusedText
@@ -45,11 +36,5 @@ pub refused-spec : {M : Type 1} → statement M
 refused-spec =
     tie.close
     (tie.spec
-    number-requires
-    slice-aggregate-word
-    word-requires
-    number-requires-2
-    slice-aggregate-word-2
-    word-requires-2
-    same-length
-    returns)
+    number-requires (λ c. search needs) word-requires number-requires-2 (λ c. search needs)
+    word-requires-2 (λ c. search needs) returns)

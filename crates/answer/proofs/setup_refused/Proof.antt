@@ -6,23 +6,11 @@ use borrow.Author.Needs.{needs}
 use Rattle.answer.proofs.setup_refused.Statement.{statement}
 use Rattle.answer.proofs.setup_refused.Tie as tie
 
-slice-aggregate-word : tie.Need-slice-aggregate-word
-slice-aggregate-word c = search needs
-
-word-requires : tie.Need-word-requires
-word-requires c κs = search needs
-
 number-requires : tie.Need-number-requires
 number-requires c κs = let s = c .before .before .before .before .before .before .before in omega (arith, length8 (s .args .refusal) (s .fits .refusal))
 
-slice-aggregate-word-2 : tie.Need-slice-aggregate-word-2
-slice-aggregate-word-2 c = search needs
-
 word-requires-2 : tie.Need-word-requires-2
 word-requires-2 c κs = let s = c .before .before .before .before .before .before .before .before .before .before .before .before in omega (arith, length8 (s .args .refusal) (s .fits .refusal))
-
-same-length : tie.Need-same-length
-same-length c = search needs
 
 returns : tie.Need-returns
 unfolding setupText
@@ -39,10 +27,5 @@ pub setup-refused-spec : {M : Type 1} → statement M
 setup-refused-spec =
     tie.close
     (tie.spec
-    slice-aggregate-word
-    word-requires
-    number-requires
-    slice-aggregate-word-2
-    word-requires-2
-    same-length
-    returns)
+    (λ c. search needs) (λ c κs. search needs) number-requires (λ c. search needs) word-requires-2
+    (λ c. search needs) returns)

@@ -6,9 +6,6 @@ use borrow.Author.Tests.{ne-eqb, le-leb, lt-leb}
 use Rattle.archive.proofs.above.Statement.{statement}
 use Rattle.archive.proofs.above.Tie as tie
 
-sub-result : tie.Need-sub-result
-sub-result c = search needs
-
 returns : tie.Need-returns
 returns c =
     let x = c .before .args .x in
@@ -19,4 +16,4 @@ returns-2 : tie.Need-returns-2
 returns-2 c = sym (le-leb (c .before .args .x) (c .before .args .m) (c .if1 .left))
 
 pub above-spec : {M : Type 1} → statement M
-above-spec = tie.close (tie.spec sub-result returns returns-2)
+above-spec = tie.close (tie.spec (λ c. search needs) returns returns-2)

@@ -22,24 +22,6 @@ abbrev μ-loop : tie.MeasureT-loop
 loop-holds : tie.Need-loop-holds Inv-loop μ-loop
 loop-holds c = (omega arith, every-none _)
 
-add-next : tie.Need-add-next Inv-loop μ-loop
-add-next c = omega arith
-
-mul-o : tie.Need-mul-o Inv-loop μ-loop
-mul-o c = omega arith
-
-add-e : tie.Need-add-e Inv-loop μ-loop
-add-e c = omega arith
-
-sub-block-fits : tie.Need-sub-block-fits Inv-loop μ-loop
-sub-block-fits c = omega arith
-
-part-block-fits-start : tie.Need-part-block-fits-start Inv-loop μ-loop
-part-block-fits-start c = omega arith
-
-part-block-fits-end : tie.Need-part-block-fits-end Inv-loop μ-loop
-part-block-fits-end c = omega arith
-
 block-fits-requires : tie.Need-block-fits-requires Inv-loop μ-loop
 block-fits-requires c κs =
     let p = c .before .before .before .before .before .pre in
@@ -53,9 +35,6 @@ returns c =
     let e : (k + 1) * 512 + 512 - (k + 1) * 512 ≡ 512 = omega arith in
     let q : blockFits (parseHeader (now (g .head))) (tableAt 8 (now (g .head)) 32) (k + 1) (eqb (k + 1) (g .n)) (blockOf (now (g .a)) k) ≡ c .before .block-fits .result = sym (rw e at (c .before .block-fits .ensures)) in
     sym (every-fails (g .n) (λ (m : ℕ). blockFits (parseHeader (now (g .head))) (tableAt 8 (now (g .head)) 32) (m + 1) (eqb (m + 1) (g .n)) (blockOf (now (g .a)) m)) k (omega arith) (q ∙ not-true _ (c .if1 .taken)))
-
-loop-less : tie.Need-loop-less Inv-loop μ-loop
-loop-less c = omega arith
 
 loop-again : tie.Need-loop-again Inv-loop μ-loop
 unfolding blockOf
@@ -78,15 +57,6 @@ blocks-fit-spec =
     (tie.spec
     Inv-loop
     μ-loop
-    loop-holds
-    add-next
-    mul-o
-    add-e
-    sub-block-fits
-    part-block-fits-start
-    part-block-fits-end
-    block-fits-requires
-    returns
-    loop-less
-    loop-again
+    loop-holds (λ c. omega arith) (λ c. omega arith) (λ c. omega arith) (λ c. omega arith)
+    (λ c. omega arith) (λ c. omega arith) block-fits-requires returns (λ c. omega arith) loop-again
     returns-2)

@@ -19,30 +19,6 @@ abbrev μ-loop : tie.MeasureT-loop
 loop-holds : tie.Need-loop-holds Inv-loop μ-loop
 loop-holds c = (omega arith, sym (every-none _))
 
-mul-get16 : tie.Need-mul-get16 Inv-loop μ-loop
-mul-get16 c = omega arith
-
-add-get16 : tie.Need-add-get16 Inv-loop μ-loop
-add-get16 c = omega arith
-
-mul-get16-2 : tie.Need-mul-get16-2 Inv-loop μ-loop
-mul-get16-2 c = omega arith
-
-add-get16-2 : tie.Need-add-get16-2 Inv-loop μ-loop
-add-get16-2 c = omega arith
-
-get16-requires : tie.Need-get16-requires Inv-loop μ-loop
-get16-requires c κs = omega arith
-
-above-requires : tie.Need-above-requires Inv-loop μ-loop
-above-requires c κs = search needs
-
-add-k : tie.Need-add-k Inv-loop μ-loop
-add-k c = omega arith
-
-loop-less : tie.Need-loop-less Inv-loop μ-loop
-loop-less c = omega arith
-
 loop-again : tie.Need-loop-again Inv-loop μ-loop
 loop-again c =
     let l = c .before .before .before .loop in
@@ -59,14 +35,6 @@ column-fits-spec =
     (tie.spec
     Inv-loop
     μ-loop
-    loop-holds
-    mul-get16
-    add-get16
-    mul-get16-2
-    add-get16-2
-    get16-requires
-    above-requires
-    add-k
-    loop-less
-    loop-again
+    loop-holds (λ c. omega arith) (λ c. omega arith) (λ c. omega arith) (λ c. omega arith)
+    (λ c κs. omega arith) (λ c κs. search needs) (λ c. omega arith) (λ c. omega arith) loop-again
     returns)

@@ -5,9 +5,6 @@ use borrow.Author.Needs.{needs}
 use Rattle.archive.proofs.count.Statement.{statement}
 use Rattle.archive.proofs.count.Tie as tie
 
-test-requires : tie.Need-test-requires
-test-requires c κs = search needs
-
 returns : tie.Need-returns
 unfolding countRecords
 returns c = rw (sym (c .before .test .ensures) ∙ not-true _ (c .if1 .taken))
@@ -20,4 +17,4 @@ unfolding countRecords
 returns-2 c = rw ((sym (c .before .before .test .ensures) ∙ not-false _ (c .before .if1 .left)), c .records .ensures)
 
 pub count-spec : {M : Type 1} → statement M
-count-spec = tie.close (tie.spec test-requires returns records-requires returns-2)
+count-spec = tie.close (tie.spec (λ c κs. search needs) returns records-requires returns-2)

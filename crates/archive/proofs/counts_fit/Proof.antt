@@ -20,20 +20,8 @@ abbrev μ-loop : tie.MeasureT-loop
 loop-holds : tie.Need-loop-holds Inv-loop μ-loop
 loop-holds c = (omega arith, sym (every-none _))
 
-cast-i : tie.Need-cast-i Inv-loop μ-loop
-cast-i c = omega arith
-
-ceiling-requires : tie.Need-ceiling-requires Inv-loop μ-loop
-ceiling-requires c κs = search needs
-
 column-fits-requires : tie.Need-column-fits-requires Inv-loop μ-loop
 column-fits-requires c κs = (c .before .before .before .before .pre, omega arith)
-
-add-j : tie.Need-add-j Inv-loop μ-loop
-add-j c = omega arith
-
-loop-less : tie.Need-loop-less Inv-loop μ-loop
-loop-less c = omega arith
 
 loop-again : tie.Need-loop-again Inv-loop μ-loop
 loop-again c = (omega arith, rw (every-turn, c .before .before .before .loop .inv .1, c .column-fits .ensures, c .before .ceiling .ensures))
@@ -50,11 +38,5 @@ counts-fit-spec =
     (tie.spec
     Inv-loop
     μ-loop
-    loop-holds
-    cast-i
-    ceiling-requires
-    column-fits-requires
-    add-j
-    loop-less
-    loop-again
-    returns)
+    loop-holds (λ c. omega arith) (λ c κs. search needs) column-fits-requires (λ c. omega arith)
+    (λ c. omega arith) loop-again returns)

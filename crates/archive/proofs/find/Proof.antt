@@ -5,9 +5,6 @@ use borrow.Author.Needs.{needs}
 use Rattle.archive.proofs.find.Statement.{statement}
 use Rattle.archive.proofs.find.Tie as tie
 
-test-requires : tie.Need-test-requires
-test-requires c κs = search needs
-
 returns : tie.Need-returns
 unfolding findRecord
 returns c = rw (sym (c .before .test .ensures) ∙ not-true _ (c .if1 .taken))
@@ -24,4 +21,4 @@ unfolding findRecord
 returns-3 c = rw ((sym (c .before .before .before .test .ensures) ∙ not-false _ (c .before .before .if1 .left)), ← c .before .records .ensures, lt-ltb _ _ (c .if2 .left))
 
 pub find-spec : {M : Type 1} → statement M
-find-spec = tie.close (tie.spec test-requires returns records-requires returns-2 returns-3)
+find-spec = tie.close (tie.spec (λ c κs. search needs) returns records-requires returns-2 returns-3)

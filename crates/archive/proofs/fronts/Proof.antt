@@ -19,29 +19,8 @@ Inv-loop head n top r₀ p₀ r p = (p ≤ 8) × Filling n head p (p * 8) r
 abbrev μ-loop : tie.MeasureT-loop
 μ-loop head n top r₀ p₀ r p = 8 - p
 
-wide-requires : tie.Need-wide-requires Inv-loop2 μ-loop2 Inv-loop μ-loop
-wide-requires c κs = search needs
-
 loop-holds : tie.Need-loop-holds Inv-loop2 μ-loop2 Inv-loop μ-loop
 loop-holds c = (omega arith, filling-none (c .before .before .args .n) (now (c .before .before .args .head)))
-
-mul-front : tie.Need-mul-front Inv-loop2 μ-loop2 Inv-loop μ-loop
-mul-front c = omega arith
-
-add-front : tie.Need-add-front Inv-loop2 μ-loop2 Inv-loop μ-loop
-add-front c = omega arith
-
-front-requires : tie.Need-front-requires Inv-loop2 μ-loop2 Inv-loop μ-loop
-front-requires c κs = omega arith
-
-add-r : tie.Need-add-r Inv-loop2 μ-loop2 Inv-loop μ-loop
-add-r c = omega arith
-
-mul-r : tie.Need-mul-r Inv-loop2 μ-loop2 Inv-loop μ-loop
-mul-r c = omega arith
-
-array-write-r : tie.Need-array-write-r Inv-loop2 μ-loop2 Inv-loop μ-loop
-array-write-r c = omega arith
 
 loop2-holds : tie.Need-loop2-holds Inv-loop2 μ-loop2 Inv-loop μ-loop
 loop2-holds c =
@@ -51,75 +30,6 @@ loop2-holds c =
     let f = filling-own (a .n) (now (a .head)) (l .p) (l .p * 8) (l .r) _ (omega arith) (x ∙ own-front (a .n) (now (a .head)) (l .p) (omega arith)) (l .inv .1) in
     let e : l .p * 8 + 0 ≡ l .p * 8 = omega arith in
     (omega arith, rw e f)
-
-mul-j : tie.Need-mul-j Inv-loop2 μ-loop2 Inv-loop μ-loop
-mul-j c = omega arith
-
-add-j : tie.Need-add-j Inv-loop2 μ-loop2 Inv-loop μ-loop
-add-j c = omega arith
-
-mul-x : tie.Need-mul-x Inv-loop2 μ-loop2 Inv-loop μ-loop
-mul-x c = omega arith
-
-mul-x-2 : tie.Need-mul-x-2 Inv-loop2 μ-loop2 Inv-loop μ-loop
-mul-x-2 c = omega arith
-
-add-x : tie.Need-add-x Inv-loop2 μ-loop2 Inv-loop μ-loop
-add-x c = omega arith
-
-mul-front-2 : tie.Need-mul-front-2 Inv-loop2 μ-loop2 Inv-loop μ-loop
-mul-front-2 c = omega arith
-
-add-front-2 : tie.Need-add-front-2 Inv-loop2 μ-loop2 Inv-loop μ-loop
-add-front-2 c = omega arith
-
-add-front-3 : tie.Need-add-front-3 Inv-loop2 μ-loop2 Inv-loop μ-loop
-add-front-3 c = omega arith
-
-shared-slice-read-front : tie.Need-shared-slice-read-front Inv-loop2 μ-loop2 Inv-loop μ-loop
-shared-slice-read-front c = omega arith
-
-add-front-4 : tie.Need-add-front-4 Inv-loop2 μ-loop2 Inv-loop μ-loop
-add-front-4 c = omega arith
-
-front-requires-2 : tie.Need-front-requires-2 Inv-loop2 μ-loop2 Inv-loop μ-loop
-front-requires-2 c κs = omega arith
-
-add-r-2 : tie.Need-add-r-2 Inv-loop2 μ-loop2 Inv-loop μ-loop
-add-r-2 c = omega arith
-
-mul-r-2 : tie.Need-mul-r-2 Inv-loop2 μ-loop2 Inv-loop μ-loop
-mul-r-2 c = omega arith
-
-array-write-r-2 : tie.Need-array-write-r-2 Inv-loop2 μ-loop2 Inv-loop μ-loop
-array-write-r-2 c = omega arith
-
-add-front-5 : tie.Need-add-front-5 Inv-loop2 μ-loop2 Inv-loop μ-loop
-add-front-5 c = omega arith
-
-shared-slice-read-front-2 : tie.Need-shared-slice-read-front-2 Inv-loop2 μ-loop2 Inv-loop μ-loop
-shared-slice-read-front-2 c = omega arith
-
-add-front-6 : tie.Need-add-front-6 Inv-loop2 μ-loop2 Inv-loop μ-loop
-add-front-6 c = omega arith
-
-front-requires-3 : tie.Need-front-requires-3 Inv-loop2 μ-loop2 Inv-loop μ-loop
-front-requires-3 c κs = omega arith
-
-add-r-3 : tie.Need-add-r-3 Inv-loop2 μ-loop2 Inv-loop μ-loop
-add-r-3 c = omega arith
-
-mul-r-3 : tie.Need-mul-r-3 Inv-loop2 μ-loop2 Inv-loop μ-loop
-mul-r-3 c = omega arith
-
-array-write-r-3 : tie.Need-array-write-r-3 Inv-loop2 μ-loop2 Inv-loop μ-loop
-array-write-r-3 c = omega arith
-
-add-s : tie.Need-add-s Inv-loop2 μ-loop2 Inv-loop μ-loop
-add-s c = omega arith
-
-loop2-less : tie.Need-loop2-less Inv-loop2 μ-loop2 Inv-loop μ-loop
-loop2-less c = omega arith
 
 loop2-again : tie.Need-loop2-again Inv-loop2 μ-loop2 Inv-loop μ-loop
 loop2-again c =
@@ -132,12 +42,6 @@ loop2-again c =
     let f = filling-link (a .n) (now (a .head)) (p + 1) (p * 8 + l .s) (l .r) _ _ (omega arith) (omega arith) y z (l .inv .1) in
     let e : p * 8 + (l .s + 1) ≡ p * 8 + l .s + 1 = omega arith in
     (omega arith, rw e f)
-
-add-p : tie.Need-add-p Inv-loop2 μ-loop2 Inv-loop μ-loop
-add-p c = omega arith
-
-loop-less : tie.Need-loop-less Inv-loop2 μ-loop2 Inv-loop μ-loop
-loop-less c = omega arith
 
 loop-again : tie.Need-loop-again Inv-loop2 μ-loop2 Inv-loop μ-loop
 loop-again c =
@@ -161,40 +65,11 @@ fronts-spec =
     μ-loop2
     Inv-loop
     μ-loop
-    wide-requires
-    loop-holds
-    mul-front
-    add-front
-    front-requires
-    add-r
-    mul-r
-    array-write-r
-    loop2-holds
-    mul-j
-    add-j
-    mul-x
-    mul-x-2
-    add-x
-    mul-front-2
-    add-front-2
-    add-front-3
-    shared-slice-read-front
-    add-front-4
-    front-requires-2
-    add-r-2
-    mul-r-2
-    array-write-r-2
-    add-front-5
-    shared-slice-read-front-2
-    add-front-6
-    front-requires-3
-    add-r-3
-    mul-r-3
-    array-write-r-3
-    add-s
-    loop2-less
-    loop2-again
-    add-p
-    loop-less
-    loop-again
-    returns)
+    (λ c κs. search needs) loop-holds (λ c. omega arith) (λ c. omega arith) (λ c κs. omega arith)
+    (λ c. omega arith) (λ c. omega arith) (λ c. omega arith) loop2-holds (λ c. omega arith)
+    (λ c. omega arith) (λ c. omega arith) (λ c. omega arith) (λ c. omega arith) (λ c. omega arith)
+    (λ c. omega arith) (λ c. omega arith) (λ c. omega arith) (λ c. omega arith)
+    (λ c κs. omega arith) (λ c. omega arith) (λ c. omega arith) (λ c. omega arith)
+    (λ c. omega arith) (λ c. omega arith) (λ c. omega arith) (λ c κs. omega arith)
+    (λ c. omega arith) (λ c. omega arith) (λ c. omega arith) (λ c. omega arith) (λ c. omega arith)
+    loop2-again (λ c. omega arith) (λ c. omega arith) loop-again returns)

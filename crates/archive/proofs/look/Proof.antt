@@ -19,17 +19,8 @@ abbrev μ-loop : tie.MeasureT-loop
 loop-holds : tie.Need-loop-holds Inv-loop μ-loop
 loop-holds c = (omega arith, (sym (every-none _), sym (every-none _), λ (i : ℕ) (b : i < 0). absurd (omega arith)))
 
-start-of-requires : tie.Need-start-of-requires Inv-loop μ-loop
-start-of-requires c κs = omega arith
-
 add-e : tie.Need-add-e Inv-loop μ-loop
 add-e c = omega (arith, start-is (c .before .before .loop .k) (omega arith), c .start-of .ensures)
-
-sub-part : tie.Need-sub-part Inv-loop μ-loop
-sub-part c = omega arith
-
-part-part-start : tie.Need-part-part-start Inv-loop μ-loop
-part-part-start c = omega arith
 
 part-part-end : tie.Need-part-part-end Inv-loop μ-loop
 part-part-end c = omega (arith, start-is (c .before .before .loop .k) (omega arith), c .start-of .ensures)
@@ -42,12 +33,6 @@ get32-requires c κs = simp (length-take, length-drop) (omega (arith, start-is (
 
 get32-requires-2 : tie.Need-get32-requires-2 Inv-loop μ-loop
 get32-requires-2 c κs = simp (length-take, length-drop) (omega (arith, start-is (c .before .before .before .before .before .loop .k) (omega arith), c .before .before .before .start-of .ensures))
-
-add-k : tie.Need-add-k Inv-loop μ-loop
-add-k c = omega arith
-
-loop-less : tie.Need-loop-less Inv-loop μ-loop
-loop-less c = omega arith
 
 loop-again : tie.Need-loop-again Inv-loop μ-loop
 loop-again c =
@@ -71,16 +56,6 @@ look-spec =
     (tie.spec
     Inv-loop
     μ-loop
-    loop-holds
-    start-of-requires
-    add-e
-    sub-part
-    part-part-start
-    part-part-end
-    front-fits-requires
-    get32-requires
-    get32-requires-2
-    add-k
-    loop-less
-    loop-again
-    returns)
+    loop-holds (λ c κs. omega arith) add-e (λ c. omega arith) (λ c. omega arith) part-part-end
+    front-fits-requires get32-requires get32-requires-2 (λ c. omega arith) (λ c. omega arith)
+    loop-again returns)

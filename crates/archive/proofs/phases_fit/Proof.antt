@@ -22,29 +22,14 @@ abbrev μ-loop : tie.MeasureT-loop
 loop-holds : tie.Need-loop-holds Inv-loop μ-loop
 loop-holds c = (omega arith, sym (every-none _))
 
-start-of-requires : tie.Need-start-of-requires Inv-loop μ-loop
-start-of-requires c κs = omega arith
-
 add-e : tie.Need-add-e Inv-loop μ-loop
 add-e c = omega (arith, start-is (c .before .before .loop .k) (omega arith), c .start-of .ensures)
-
-sub-get32 : tie.Need-sub-get32 Inv-loop μ-loop
-sub-get32 c = omega arith
-
-part-get32-start : tie.Need-part-get32-start Inv-loop μ-loop
-part-get32-start c = omega arith
 
 part-get32-end : tie.Need-part-get32-end Inv-loop μ-loop
 part-get32-end c = omega (arith, start-is (c .before .before .loop .k) (omega arith), c .start-of .ensures)
 
 get32-requires : tie.Need-get32-requires Inv-loop μ-loop
 get32-requires c κs = simp (length-take, length-drop) (omega (arith, start-is (c .before .before .before .loop .k) (omega arith), c .before .start-of .ensures))
-
-add-k : tie.Need-add-k Inv-loop μ-loop
-add-k c = omega arith
-
-loop-less : tie.Need-loop-less Inv-loop μ-loop
-loop-less c = omega arith
 
 loop-again : tie.Need-loop-again Inv-loop μ-loop
 loop-again c =
@@ -66,14 +51,5 @@ phases-fit-spec =
     (tie.spec
     Inv-loop
     μ-loop
-    loop-holds
-    start-of-requires
-    add-e
-    sub-get32
-    part-get32-start
-    part-get32-end
-    get32-requires
-    add-k
-    loop-less
-    loop-again
-    returns)
+    loop-holds (λ c κs. omega arith) add-e (λ c. omega arith) (λ c. omega arith) part-get32-end
+    get32-requires (λ c. omega arith) (λ c. omega arith) loop-again returns)

@@ -5,12 +5,9 @@ use mathlib.Core.Path.{refl}
 use Rattle.archive.proofs.place_of.Statement.{statement}
 use Rattle.archive.proofs.place_of.Tie as tie
 
-mul-result : tie.Need-mul-result
-mul-result c = search needs
-
 returns : tie.Need-returns
 unfolding placeOf
 returns c = (refl, omega arith)
 
 pub place-of-spec : {M : Type 1} → statement M
-place-of-spec = tie.close (tie.spec mul-result returns)
+place-of-spec = tie.close (tie.spec (λ c. search needs) returns)

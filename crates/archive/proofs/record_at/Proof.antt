@@ -10,39 +10,15 @@ use borrow.Author.Needs.{needs}
 use Rattle.archive.proofs.record_at.Statement.{statement}
 use Rattle.archive.proofs.record_at.Tie as tie
 
-add-b : tie.Need-add-b
-add-b c = search needs
-
-sub-result : tie.Need-sub-result
-sub-result c = search needs
-
-part-result-start : tie.Need-part-result-start
-part-result-start c = search needs
-
-part-result-end : tie.Need-part-result-end
-part-result-end c = search needs
-
 returns : tie.Need-returns
 unfolding recordAt
 returns c = rw (le-ltb _ _ (c .before .if1 .taken))
-
-mul-o : tie.Need-mul-o
-mul-o c = search needs
-
-start-of-requires : tie.Need-start-of-requires
-start-of-requires c κs = search needs
 
 add-o : tie.Need-add-o
 add-o c = omega (arith, start-is (c .before .before .before .args .k % 15) (omega arith), c .start-of .ensures)
 
 add-e : tie.Need-add-e
 add-e c = omega (arith, start-is (c .before .before .before .args .k % 15) (omega arith), c .start-of .ensures)
-
-sub-result-2 : tie.Need-sub-result-2
-sub-result-2 c = search needs
-
-part-result-start-2 : tie.Need-part-result-start-2
-part-result-start-2 c = search needs
 
 part-result-end-2 : tie.Need-part-result-end-2
 part-result-end-2 c = omega (arith, start-is (c .before .before .before .args .k % 15) (omega arith), c .start-of .ensures)
@@ -59,16 +35,6 @@ pub record-at-spec : {M : Type 1} → statement M
 record-at-spec =
     tie.close
     (tie.spec
-    add-b
-    sub-result
-    part-result-start
-    part-result-end
-    returns
-    mul-o
-    start-of-requires
-    add-o
-    add-e
-    sub-result-2
-    part-result-start-2
-    part-result-end-2
-    returns-2)
+    (λ c. search needs) (λ c. search needs) (λ c. search needs) (λ c. search needs) returns
+    (λ c. search needs) (λ c κs. search needs) add-o add-e (λ c. search needs) (λ c. search needs)
+    part-result-end-2 returns-2)

@@ -18,30 +18,6 @@ returns : tie.Need-returns
 unfolding records blocks
 returns c = rw (eq-eqb _ 0 (c .if1 .taken))
 
-mul-o : tie.Need-mul-o
-mul-o c = search needs
-
-add-e : tie.Need-add-e
-add-e c = search needs
-
-sub-result : tie.Need-sub-result
-sub-result c = search needs
-
-mul-result : tie.Need-mul-result
-mul-result c = search needs
-
-sub-count-of : tie.Need-sub-count-of
-sub-count-of c = search needs
-
-part-count-of-start : tie.Need-part-count-of-start
-part-count-of-start c = search needs
-
-part-count-of-end : tie.Need-part-count-of-end
-part-count-of-end c = search needs
-
-count-of-requires : tie.Need-count-of-requires
-count-of-requires c κs = search needs
-
 add-result : tie.Need-add-result
 unfolding blocks
 add-result c =
@@ -59,15 +35,6 @@ pub records-spec : {M : Type 1} → statement M
 records-spec =
     tie.close
     (tie.spec
-    sub-n
-    returns
-    mul-o
-    add-e
-    sub-result
-    mul-result
-    sub-count-of
-    part-count-of-start
-    part-count-of-end
-    count-of-requires
-    add-result
+    sub-n returns (λ c. search needs) (λ c. search needs) (λ c. search needs) (λ c. search needs)
+    (λ c. search needs) (λ c. search needs) (λ c. search needs) (λ c κs. search needs) add-result
     returns-2)

@@ -5,17 +5,11 @@ use Rattle.archive.proofs.SweepLaws.{looked-each, looked-low}
 use Rattle.archive.proofs.records_fit.Statement.{statement}
 use Rattle.archive.proofs.records_fit.Tie as tie
 
-look-requires : tie.Need-look-requires
-look-requires c κs = search needs
-
 returns : tie.Need-returns
 returns c =
     let a = c .before .before .before .before .before .before .args in
     let s = c .before .before .before .before .look in
     looked-low (now (a .known)) (now (a .block)) (a .count) (s .result .right) (s .result .spare) (s .result .phases) (s .ensures) (omega (arith, c .if1 .taken))
-
-phases-fit-requires : tie.Need-phases-fit-requires
-phases-fit-requires c κs = search needs
 
 returns-2 : tie.Need-returns-2
 returns-2 c =
@@ -24,4 +18,4 @@ returns-2 c =
     looked-each (now (a .known)) (now (a .block)) (a .count) (s .result .right) (s .result .spare) (s .result .phases) (s .ensures) (c .phases-fit .result) (c .phases-fit .ensures)
 
 pub records-fit-spec : {M : Type 1} → statement M
-records-fit-spec = tie.close (tie.spec look-requires returns phases-fit-requires returns-2)
+records-fit-spec = tie.close (tie.spec (λ c κs. search needs) returns (λ c κs. search needs) returns-2)

@@ -20,36 +20,15 @@ returns-2 : tie.Need-returns-2
 unfolding archiveTest blocks
 returns-2 c = rw (eq-eqb _ 0 (c .before .if1 .left), short-refused (now (c .before .before .before .args .a)) (c .if2 .taken))
 
-sub-head : tie.Need-sub-head
-sub-head c = search needs
-
-part-head-start : tie.Need-part-head-start
-part-head-start c = search needs
-
-part-head-end : tie.Need-part-head-end
-part-head-end c = search needs
-
-well-made-requires : tie.Need-well-made-requires
-well-made-requires c κs = search needs
-
 returns-3 : tie.Need-returns-3
 unfolding archiveTest blocks
 returns-3 c = rw (eq-eqb _ 0 (c .before .before .before .before .if1 .left), sym (c .before .well-made .ensures) ∙ not-true _ (c .if3 .taken))
-
-sub-n : tie.Need-sub-n
-sub-n c = search needs
 
 returns-4 : tie.Need-returns-4
 unfolding archiveTest blocksFit blocks
 returns-4 c =
     let h = sym (c .before .before .well-made .ensures) ∙ not-false _ (c .before .if3 .left) in
     rw (eq-eqb _ 0 (c .before .before .before .before .before .if1 .left), h, c .if4 .taken) (sym (every-none _))
-
-shared-slice-read-fronts : tie.Need-shared-slice-read-fronts
-shared-slice-read-fronts c = search needs
-
-fronts-requires : tie.Need-fronts-requires
-fronts-requires c κs = search needs
 
 blocks-fit-requires : tie.Need-blocks-fit-requires
 blocks-fit-requires c κs =
@@ -67,16 +46,6 @@ pub test-spec : {M : Type 1} → statement M
 test-spec =
     tie.close
     (tie.spec
-    returns
-    returns-2
-    sub-head
-    part-head-start
-    part-head-end
-    well-made-requires
-    returns-3
-    sub-n
-    returns-4
-    shared-slice-read-fronts
-    fronts-requires
-    blocks-fit-requires
-    returns-5)
+    returns returns-2 (λ c. search needs) (λ c. search needs) (λ c. search needs)
+    (λ c κs. search needs) returns-3 (λ c. search needs) returns-4 (λ c. search needs)
+    (λ c κs. search needs) blocks-fit-requires returns-5)

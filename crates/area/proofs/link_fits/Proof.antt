@@ -12,27 +12,6 @@ use borrow.Author.Needs.{needs}
 use Rattle.area.proofs.link_fits.Statement.{statement}
 use Rattle.area.proofs.link_fits.Tie as tie
 
-mul-o : tie.Need-mul-o
-mul-o c = search needs
-
-add-o : tie.Need-add-o
-add-o c = search needs
-
-add-e : tie.Need-add-e
-add-e c = search needs
-
-places-of-requires : tie.Need-places-of-requires
-places-of-requires c κs = search needs
-
-sub-items-fit : tie.Need-sub-items-fit
-sub-items-fit c = search needs
-
-part-items-fit-start : tie.Need-part-items-fit-start
-part-items-fit-start c = search needs
-
-part-items-fit-end : tie.Need-part-items-fit-end
-part-items-fit-end c = search needs
-
 items-fit-requires : tie.Need-items-fit-requires
 items-fit-requires c κs = (simp (length-take, length-drop) (omega arith), c .before .places-of .ensures .1)
 
@@ -49,9 +28,6 @@ tested c =
 returns : tie.Need-returns
 returns c = rw (tested (c .before) ∙ not-true _ (c .if1 .taken))
 
-blank-between-requires : tie.Need-blank-between-requires
-blank-between-requires c κs = search needs
-
 returns-2 : tie.Need-returns-2
 returns-2 c = rw (tested (c .before .before) ∙ not-false _ (c .before .if1 .left)) (c .blank-between .ensures)
 
@@ -59,14 +35,6 @@ pub link-fits-spec : {M : Type 1} → statement M
 link-fits-spec =
     tie.close
     (tie.spec
-    mul-o
-    add-o
-    add-e
-    places-of-requires
-    sub-items-fit
-    part-items-fit-start
-    part-items-fit-end
-    items-fit-requires
-    returns
-    blank-between-requires
-    returns-2)
+    (λ c. search needs) (λ c. search needs) (λ c. search needs) (λ c κs. search needs)
+    (λ c. search needs) (λ c. search needs) (λ c. search needs) items-fit-requires returns
+    (λ c κs. search needs) returns-2)

@@ -17,23 +17,8 @@ Inv-loop head a n t from₀ k₀ from k = (k ≤ 64) × Read (blockConfig head) 
 abbrev μ-loop : tie.MeasureT-loop
 μ-loop head a n t from₀ k₀ from k = 64 - k
 
-shared-slice-read-n : tie.Need-shared-slice-read-n Inv-loop μ-loop
-shared-slice-read-n c = omega arith
-
-get16-requires : tie.Need-get16-requires Inv-loop μ-loop
-get16-requires c κs = omega arith
-
 loop-holds : tie.Need-loop-holds Inv-loop μ-loop
 loop-holds c = (omega arith, read-none _ _)
-
-mul-o : tie.Need-mul-o Inv-loop μ-loop
-mul-o c = omega arith
-
-add-o : tie.Need-add-o Inv-loop μ-loop
-add-o c = omega arith
-
-shared-slice-read-b : tie.Need-shared-slice-read-b Inv-loop μ-loop
-shared-slice-read-b c = omega arith
 
 link-fits-requires : tie.Need-link-fits-requires Inv-loop μ-loop
 link-fits-requires c κs =
@@ -62,12 +47,6 @@ add-from c = omega (arith, count-below (c .before .before .before))
 
 add-from-2 : tie.Need-add-from-2 Inv-loop μ-loop
 add-from-2 c = omega (arith, count-below (c .before .before .before))
-
-add-k : tie.Need-add-k Inv-loop μ-loop
-add-k c = omega arith
-
-loop-less : tie.Need-loop-less Inv-loop μ-loop
-loop-less c = omega arith
 
 loop-again : tie.Need-loop-again Inv-loop μ-loop
 loop-again c =
@@ -101,20 +80,6 @@ links-fit-spec =
     (tie.spec
     Inv-loop
     μ-loop
-    shared-slice-read-n
-    get16-requires
-    loop-holds
-    mul-o
-    add-o
-    shared-slice-read-b
-    link-fits-requires
-    returns
-    cast-from
-    mul-from
-    add-from
-    add-from-2
-    add-k
-    loop-less
-    loop-again
-    blank-between-requires
-    returns-2)
+    (λ c. omega arith) (λ c κs. omega arith) loop-holds (λ c. omega arith) (λ c. omega arith)
+    (λ c. omega arith) link-fits-requires returns cast-from mul-from add-from add-from-2
+    (λ c. omega arith) (λ c. omega arith) loop-again blank-between-requires returns-2)

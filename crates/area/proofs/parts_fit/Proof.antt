@@ -8,15 +8,6 @@ use borrow.Author.Needs.{needs}
 use Rattle.area.proofs.parts_fit.Statement.{statement}
 use Rattle.area.proofs.parts_fit.Tie as tie
 
-load-requires : tie.Need-load-requires
-load-requires c κs = search needs
-
-load-limits-requires : tie.Need-load-limits-requires
-load-limits-requires c κs = search needs
-
-setup-fits-requires : tie.Need-setup-fits-requires
-setup-fits-requires c κs = search needs
-
 -- the rules are tested on the header block's fields
 ruled : (c : tie.After-setup-fits) → networkRules (blockConfig (now (c .before .before .before .before .before .args .head))) ≡ c .setup-fits .result
 ruled c = sym (rw (c .before .before .load .ensures, c .before .load-limits .ensures) at (c .setup-fits .ensures))
@@ -25,15 +16,9 @@ returns : tie.Need-returns
 unfolding partsTest
 returns c = rw (ruled (c .before) ∙ not-true _ (c .if1 .taken))
 
-stations-fit-requires : tie.Need-stations-fit-requires
-stations-fit-requires c κs = search needs
-
 returns-2 : tie.Need-returns-2
 unfolding partsTest
 returns-2 c = rw (ruled (c .before .before .before) ∙ not-false _ (c .before .before .if1 .left), sym (c .before .stations-fit .ensures) ∙ not-true _ (c .if2 .taken))
-
-links-fit-requires : tie.Need-links-fit-requires
-links-fit-requires c κs = search needs
 
 returns-3 : tie.Need-returns-3
 unfolding partsTest
@@ -45,11 +30,5 @@ pub parts-fit-spec : {M : Type 1} → statement M
 parts-fit-spec =
     tie.close
     (tie.spec
-    load-requires
-    load-limits-requires
-    setup-fits-requires
-    returns
-    stations-fit-requires
-    returns-2
-    links-fit-requires
-    returns-3)
+    (λ c κs. search needs) (λ c κs. search needs) (λ c κs. search needs) returns
+    (λ c κs. search needs) returns-2 (λ c κs. search needs) returns-3)

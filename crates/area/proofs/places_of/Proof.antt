@@ -26,12 +26,6 @@ limit-at l k h =
 small : (l : List ℕ) (k : ℕ) → k < 64 → wellMade (blockConfig l) ≡ true → getD l (32 + k) 0 ≤ 32
 small l k h w = rw (← limit-at l k h) (shape (blockConfig l) w .limit32 (k / 8) (k % 8) (omega arith) (omega arith))
 
-add-limit : tie.Need-add-limit
-add-limit c = search needs
-
-shared-slice-read-limit : tie.Need-shared-slice-read-limit
-shared-slice-read-limit c = search needs
-
 returns : tie.Need-returns
 unfolding places neighbours linked
 returns c =
@@ -51,4 +45,4 @@ returns-2 c =
 
 pub places-of-spec : {M : Type 1} → statement M
 places-of-spec =
-    tie.close (tie.spec add-limit shared-slice-read-limit returns add-result returns-2)
+    tie.close (tie.spec (λ c. search needs) (λ c. search needs) returns add-result returns-2)

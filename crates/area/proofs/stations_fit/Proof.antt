@@ -22,24 +22,6 @@ abbrev μ-loop : tie.MeasureT-loop
 loop-holds : tie.Need-loop-holds Inv-loop μ-loop
 loop-holds c = (omega arith, every-none _)
 
-mul-o : tie.Need-mul-o Inv-loop μ-loop
-mul-o c = omega arith
-
-add-o : tie.Need-add-o Inv-loop μ-loop
-add-o c = omega arith
-
-add-e : tie.Need-add-e Inv-loop μ-loop
-add-e c = omega arith
-
-sub-test : tie.Need-sub-test Inv-loop μ-loop
-sub-test c = omega arith
-
-part-test-start : tie.Need-part-test-start Inv-loop μ-loop
-part-test-start c = omega arith
-
-part-test-end : tie.Need-part-test-end Inv-loop μ-loop
-part-test-end c = omega arith
-
 test-requires : tie.Need-test-requires Inv-loop μ-loop
 test-requires c κs = (omega arith, omega arith, simp (length-take, length-drop) (omega arith))
 
@@ -51,12 +33,6 @@ returns c =
     let e : 512 + i * 47 + 47 - (512 + i * 47) ≡ 47 = omega arith in
     let q : stationTest (blockConfig (now (g .head))) i (stationBytes (now (g .a)) i) ≡ c .before .test .result = sym (rw e at (c .before .test .ensures)) in
     sym (every-fails 8 (stationTestAt (blockConfig (now (g .head))) (now (g .a))) i (omega arith) (q ∙ not-true _ (c .if1 .taken)))
-
-add-i : tie.Need-add-i Inv-loop μ-loop
-add-i c = omega arith
-
-loop-less : tie.Need-loop-less Inv-loop μ-loop
-loop-less c = omega arith
 
 loop-again : tie.Need-loop-again Inv-loop μ-loop
 unfolding stationBytes
@@ -77,16 +53,6 @@ stations-fit-spec =
     (tie.spec
     Inv-loop
     μ-loop
-    loop-holds
-    mul-o
-    add-o
-    add-e
-    sub-test
-    part-test-start
-    part-test-end
-    test-requires
-    returns
-    add-i
-    loop-less
-    loop-again
-    returns-2)
+    loop-holds (λ c. omega arith) (λ c. omega arith) (λ c. omega arith) (λ c. omega arith)
+    (λ c. omega arith) (λ c. omega arith) test-requires returns (λ c. omega arith)
+    (λ c. omega arith) loop-again returns-2)

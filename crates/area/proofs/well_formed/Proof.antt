@@ -17,18 +17,6 @@ returns : tie.Need-returns
 unfolding test configAt
 returns c = rw (ne-eqb _ 65536 (c .if1 .taken))
 
-sub-head : tie.Need-sub-head
-sub-head c = search needs
-
-part-head-start : tie.Need-part-head-start
-part-head-start c = search needs
-
-part-head-end : tie.Need-part-head-end
-part-head-end c = search needs
-
-well-made-requires : tie.Need-well-made-requires
-well-made-requires c κs = search needs
-
 returns-2 : tie.Need-returns-2
 unfolding test configAt
 returns-2 c = rw (eq-eqb _ 65536 (c .before .before .before .if1 .left), sym (c .before .well-made .ensures) ∙ not-true _ (c .if2 .taken))
@@ -47,11 +35,5 @@ pub well-formed-spec : {M : Type 1} → statement M
 well-formed-spec =
     tie.close
     (tie.spec
-    returns
-    sub-head
-    part-head-start
-    part-head-end
-    well-made-requires
-    returns-2
-    parts-fit-requires
-    returns-3)
+    returns (λ c. search needs) (λ c. search needs) (λ c. search needs) (λ c κs. search needs)
+    returns-2 parts-fit-requires returns-3)

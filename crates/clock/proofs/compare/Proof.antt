@@ -19,44 +19,11 @@ abbrev μ-loop : tie.MeasureT-loop
 loop-holds : tie.Need-loop-holds Inv-loop μ-loop
 loop-holds c = (omega arith, sym (every-none _), sym (every-none _))
 
-mul-less : tie.Need-mul-less Inv-loop μ-loop
-mul-less c = search needs
-
-array-read-less : tie.Need-array-read-less Inv-loop μ-loop
-array-read-less c = search needs
-
-mul-less-2 : tie.Need-mul-less-2 Inv-loop μ-loop
-mul-less-2 c = search needs
-
-array-read-less-2 : tie.Need-array-read-less-2 Inv-loop μ-loop
-array-read-less-2 c = search needs
-
-mul-greater : tie.Need-mul-greater Inv-loop μ-loop
-mul-greater c = search needs
-
-array-read-greater : tie.Need-array-read-greater Inv-loop μ-loop
-array-read-greater c = search needs
-
-mul-greater-2 : tie.Need-mul-greater-2 Inv-loop μ-loop
-mul-greater-2 c = search needs
-
-array-read-greater-2 : tie.Need-array-read-greater-2 Inv-loop μ-loop
-array-read-greater-2 c = search needs
-
-add-k : tie.Need-add-k Inv-loop μ-loop
-add-k c = search needs
-
-loop-less : tie.Need-loop-less Inv-loop μ-loop
-loop-less c = search needs
-
 loop-again : tie.Need-loop-again Inv-loop μ-loop
 loop-again c =
     let a = c .before .before .args in
     let l = c .before .loop in
     (omega arith, less-turn (a .t1) (a .t2) (l .k) (l .less) (l .inv .1), less-turn (a .t2) (a .t1) (l .k) (l .greater) (l .inv .2))
-
-decide-requires : tie.Need-decide-requires Inv-loop μ-loop
-decide-requires c κs = search needs
 
 returns : tie.Need-returns Inv-loop μ-loop
 unfolding noGreater
@@ -72,17 +39,6 @@ compare-spec =
     (tie.spec
     Inv-loop
     μ-loop
-    loop-holds
-    mul-less
-    array-read-less
-    mul-less-2
-    array-read-less-2
-    mul-greater
-    array-read-greater
-    mul-greater-2
-    array-read-greater-2
-    add-k
-    loop-less
-    loop-again
-    decide-requires
-    returns)
+    loop-holds (λ c. search needs) (λ c. search needs) (λ c. search needs) (λ c. search needs)
+    (λ c. search needs) (λ c. search needs) (λ c. search needs) (λ c. search needs)
+    (λ c. search needs) (λ c. search needs) loop-again (λ c κs. search needs) returns)

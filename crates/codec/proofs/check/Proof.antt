@@ -3,18 +3,9 @@ use borrow.Author.Needs.{needs}
 use Rattle.codec.proofs.check.Statement.{statement}
 use Rattle.codec.proofs.check.Tie as tie
 
-weigh-requires : tie.Need-weigh-requires
-weigh-requires c κs = search needs
-
-add-result : tie.Need-add-result
-add-result c = search needs
-
-cast-result : tie.Need-cast-result
-cast-result c = search needs
-
 returns : tie.Need-returns
 unfolding checkOf
 returns c = rw (c .weigh .ensures .0)
 
 pub check-spec : {M : Type 1} → statement M
-check-spec = tie.close (tie.spec weigh-requires add-result cast-result returns)
+check-spec = tie.close (tie.spec (λ c κs. search needs) (λ c. search needs) (λ c. search needs) returns)

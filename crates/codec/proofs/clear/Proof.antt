@@ -19,15 +19,6 @@ abbrev μ-loop : tie.MeasureT-loop
 loop-holds : tie.Need-loop-holds Inv-loop μ-loop
 loop-holds c = (omega arith, refl, sym (ap (λ (l : List ℕ). l ++ now (c .args .d)) blank-none))
 
-slice-write-d : tie.Need-slice-write-d Inv-loop μ-loop
-slice-write-d c = omega arith
-
-add-i : tie.Need-add-i Inv-loop μ-loop
-add-i c = omega arith
-
-loop-less : tie.Need-loop-less Inv-loop μ-loop
-loop-less c = omega arith
-
 loop-again : tie.Need-loop-again Inv-loop μ-loop
 loop-again c =
     let l = c .before .loop in
@@ -35,9 +26,6 @@ loop-again c =
     let e : blank (l .i - 0) ≡ blank (l .i) = ap blank (omega arith) in
     let f : blank (l .i + 1 - 0) ≡ blank (l .i + 1) = ap blank (omega arith) in
     (omega arith, simp length-set (omega arith), ap (λ (x : List ℕ). set x (l .i) 0) (l .inv .2) ∙ (rw (e, f) at (clear-turn d 0 (l .i) (omega arith) (omega arith))))
-
-same-length : tie.Need-same-length Inv-loop μ-loop
-same-length c = omega arith
 
 returns : tie.Need-returns Inv-loop μ-loop
 returns c =
@@ -53,10 +41,5 @@ clear-spec =
     (tie.spec
     Inv-loop
     μ-loop
-    loop-holds
-    slice-write-d
-    add-i
-    loop-less
-    loop-again
-    same-length
-    returns)
+    loop-holds (λ c. omega arith) (λ c. omega arith) (λ c. omega arith) loop-again
+    (λ c. omega arith) returns)

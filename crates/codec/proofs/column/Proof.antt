@@ -15,33 +15,6 @@ Inv-loop s j low₀ high₀ r₀ low high r =
 abbrev μ-loop : tie.MeasureT-loop
 μ-loop s j low₀ high₀ r₀ low high r = r
 
-loop-holds : tie.Need-loop-holds Inv-loop μ-loop
-loop-holds c = omega arith
-
-sub-r : tie.Need-sub-r Inv-loop μ-loop
-sub-r c = omega arith
-
-add-high : tie.Need-add-high Inv-loop μ-loop
-add-high c = omega arith
-
-mul-wide16 : tie.Need-mul-wide16 Inv-loop μ-loop
-mul-wide16 c = omega arith
-
-add-wide16 : tie.Need-add-wide16 Inv-loop μ-loop
-add-wide16 c = omega arith
-
-shared-slice-read-wide16 : tie.Need-shared-slice-read-wide16 Inv-loop μ-loop
-shared-slice-read-wide16 c = omega arith
-
-wide16-requires : tie.Need-wide16-requires Inv-loop μ-loop
-wide16-requires c κs = search needs
-
-add-low : tie.Need-add-low Inv-loop μ-loop
-add-low c = omega arith
-
-loop-less : tie.Need-loop-less Inv-loop μ-loop
-loop-less c = omega arith
-
 loop-again : tie.Need-loop-again Inv-loop μ-loop
 loop-again c =
     let l = c .before .before .before .loop in
@@ -65,14 +38,6 @@ column-spec =
     (tie.spec
     Inv-loop
     μ-loop
-    loop-holds
-    sub-r
-    add-high
-    mul-wide16
-    add-wide16
-    shared-slice-read-wide16
-    wide16-requires
-    add-low
-    loop-less
-    loop-again
+    (λ c. omega arith) (λ c. omega arith) (λ c. omega arith) (λ c. omega arith) (λ c. omega arith)
+    (λ c. omega arith) (λ c κs. search needs) (λ c. omega arith) (λ c. omega arith) loop-again
     returns)

@@ -5,21 +5,6 @@ use borrow.Author.Needs.{needs}
 use Rattle.codec.proofs.piece.Statement.{statement}
 use Rattle.codec.proofs.piece.Tie as tie
 
-add-end : tie.Need-add-end
-add-end c = search needs
-
-sub-zeros : tie.Need-sub-zeros
-sub-zeros c = search needs
-
-part-zeros-start : tie.Need-part-zeros-start
-part-zeros-start c = search needs
-
-part-zeros-end : tie.Need-part-zeros-end
-part-zeros-end c = search needs
-
-zeros-requires : tie.Need-zeros-requires
-zeros-requires c κs = search needs
-
 returns : tie.Need-returns
 returns c =
     let at = c .before .before .before .args .at in
@@ -28,4 +13,4 @@ returns c =
 
 pub piece-spec : {M : Type 1} → statement M
 piece-spec =
-    tie.close (tie.spec add-end sub-zeros part-zeros-start part-zeros-end zeros-requires returns)
+    tie.close (tie.spec (λ c. search needs) (λ c. search needs) (λ c. search needs) (λ c. search needs) (λ c κs. search needs) returns)

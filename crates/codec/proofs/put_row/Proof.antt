@@ -20,27 +20,6 @@ abbrev μ-loop : tie.MeasureT-loop
 loop-holds : tie.Need-loop-holds Inv-loop μ-loop
 loop-holds c = (omega arith, refl, sym (splice-none _ (c .before .args .at)))
 
-mul-put16 : tie.Need-mul-put16 Inv-loop μ-loop
-mul-put16 c = search needs
-
-add-put16 : tie.Need-add-put16 Inv-loop μ-loop
-add-put16 c = search needs
-
-mul-put16-2 : tie.Need-mul-put16-2 Inv-loop μ-loop
-mul-put16-2 c = search needs
-
-array-read-put16 : tie.Need-array-read-put16 Inv-loop μ-loop
-array-read-put16 c = search needs
-
-put16-requires : tie.Need-put16-requires Inv-loop μ-loop
-put16-requires c κs = omega arith
-
-add-i : tie.Need-add-i Inv-loop μ-loop
-add-i c = search needs
-
-loop-less : tie.Need-loop-less Inv-loop μ-loop
-loop-less c = search needs
-
 loop-again : tie.Need-loop-again Inv-loop μ-loop
 loop-again c =
     let a = c .before .before .before .before .before .before .before .args in
@@ -49,9 +28,6 @@ loop-again c =
       omega (arith, c .before .before .put16 .kept .0),
       nums-turn 2 (now (a .d)) (a .t3) _ _ (a .at) (l .i) (a .at + 2 * l .i) (omega arith) (omega arith) (l .inv .2) (c .before .before .put16 .ensures),
     )
-
-same-length : tie.Need-same-length Inv-loop μ-loop
-same-length c = omega arith
 
 returns : tie.Need-returns Inv-loop μ-loop
 returns c =
@@ -64,14 +40,6 @@ put-row-spec =
     (tie.spec
     Inv-loop
     μ-loop
-    loop-holds
-    mul-put16
-    add-put16
-    mul-put16-2
-    array-read-put16
-    put16-requires
-    add-i
-    loop-less
-    loop-again
-    same-length
+    loop-holds (λ c. search needs) (λ c. search needs) (λ c. search needs) (λ c. search needs)
+    (λ c κs. omega arith) (λ c. search needs) (λ c. search needs) loop-again (λ c. omega arith)
     returns)

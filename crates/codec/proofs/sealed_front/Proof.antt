@@ -9,18 +9,6 @@ use borrow.Author.Needs.{needs}
 use Rattle.codec.proofs.sealed_front.Statement.{statement}
 use Rattle.codec.proofs.sealed_front.Tie as tie
 
-get16-requires : tie.Need-get16-requires
-get16-requires c κs = search needs
-
-weigh-front-requires : tie.Need-weigh-front-requires
-weigh-front-requires c κs = search needs
-
-add-result : tie.Need-add-result
-add-result c = search needs
-
-cast-result : tie.Need-cast-result
-cast-result c = search needs
-
 returns : tie.Need-returns
 unfolding sealed checkOf
 returns c =
@@ -32,4 +20,4 @@ returns c =
 
 pub sealed-front-spec : {M : Type 1} → statement M
 sealed-front-spec =
-    tie.close (tie.spec get16-requires weigh-front-requires add-result cast-result returns)
+    tie.close (tie.spec (λ c κs. search needs) (λ c κs. search needs) (λ c. search needs) (λ c. search needs) returns)

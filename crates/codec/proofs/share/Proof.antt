@@ -6,15 +6,6 @@ use Rattle.codec.proofs.ColumnLaws.{share-small}
 use Rattle.codec.proofs.share.Statement.{statement}
 use Rattle.codec.proofs.share.Tie as tie
 
-mul-result : tie.Need-mul-result
-mul-result c = search needs
-
-add-result : tie.Need-add-result
-add-result c = search needs
-
-cast-result : tie.Need-cast-result
-cast-result c = search needs
-
 mul-result-2 : tie.Need-mul-result-2
 mul-result-2 c = omega (arith, share-small (c .args .k) (c .args .low % 4096) 3825 (omega arith) (omega arith))
 
@@ -28,4 +19,4 @@ returns c =
 
 pub share-spec : {M : Type 1} → statement M
 share-spec =
-    tie.close (tie.spec mul-result add-result cast-result mul-result-2 add-result-2 returns)
+    tie.close (tie.spec (λ c. search needs) (λ c. search needs) (λ c. search needs) mul-result-2 add-result-2 returns)

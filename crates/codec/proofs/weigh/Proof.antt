@@ -16,36 +16,15 @@ Inv-loop s sum₀ i₀ sum i = (480 ≤ i) × (i ≤ 510) × (sum ≤ 130050 * i
 abbrev μ-loop : tie.MeasureT-loop
 μ-loop s sum₀ i₀ sum i = 510 - i
 
-weigh-columns-requires : tie.Need-weigh-columns-requires Inv-loop μ-loop
-weigh-columns-requires c κs = omega arith
-
 loop-holds : tie.Need-loop-holds Inv-loop μ-loop
 loop-holds c =
     (omega arith, omega arith, omega arith, c .weigh-columns .ensures .0 ∙ columns-are 15 (now (c .before .before .args .s)) (omega arith))
-
-cast-at : tie.Need-cast-at Inv-loop μ-loop
-cast-at c = omega arith
-
-add-sum : tie.Need-add-sum Inv-loop μ-loop
-add-sum c = omega arith
-
-shared-slice-read-wide32 : tie.Need-shared-slice-read-wide32 Inv-loop μ-loop
-shared-slice-read-wide32 c = omega arith
-
-wide32-requires : tie.Need-wide32-requires Inv-loop μ-loop
-wide32-requires c κs = search needs
 
 mul-sum : tie.Need-mul-sum Inv-loop μ-loop
 mul-sum c = omega (arith, weight-small (c .before .before .before .loop .i) (c .wide32 .result) (omega arith) (c .wide32 .ensures .1))
 
 add-sum-2 : tie.Need-add-sum-2 Inv-loop μ-loop
 add-sum-2 c = omega (arith, weight-small (c .before .before .before .loop .i) (c .wide32 .result) (omega arith) (c .wide32 .ensures .1))
-
-add-i : tie.Need-add-i Inv-loop μ-loop
-add-i c = omega arith
-
-loop-less : tie.Need-loop-less Inv-loop μ-loop
-loop-less c = omega arith
 
 loop-again : tie.Need-loop-again Inv-loop μ-loop
 loop-again c =
@@ -66,15 +45,6 @@ weigh-spec =
     (tie.spec
     Inv-loop
     μ-loop
-    weigh-columns-requires
-    loop-holds
-    cast-at
-    add-sum
-    shared-slice-read-wide32
-    wide32-requires
-    mul-sum
-    add-sum-2
-    add-i
-    loop-less
-    loop-again
+    (λ c κs. omega arith) loop-holds (λ c. omega arith) (λ c. omega arith) (λ c. omega arith)
+    (λ c κs. search needs) mul-sum add-sum-2 (λ c. omega arith) (λ c. omega arith) loop-again
     returns)

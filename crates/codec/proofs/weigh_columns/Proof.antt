@@ -24,27 +24,6 @@ abbrev μ-loop2 : tie.MeasureT-loop2
 loop-holds : tie.Need-loop-holds Inv-loop μ-loop Inv-loop2 μ-loop2
 loop-holds c = (omega arith, refl, refl, λ (k : ℕ) (h : k < 0). absurd (omega arith))
 
-column-requires : tie.Need-column-requires Inv-loop μ-loop Inv-loop2 μ-loop2
-column-requires c κs = search needs
-
-mul-lows : tie.Need-mul-lows Inv-loop μ-loop Inv-loop2 μ-loop2
-mul-lows c = omega arith
-
-array-write-lows : tie.Need-array-write-lows Inv-loop μ-loop Inv-loop2 μ-loop2
-array-write-lows c = omega arith
-
-mul-highs : tie.Need-mul-highs Inv-loop μ-loop Inv-loop2 μ-loop2
-mul-highs c = omega arith
-
-array-write-highs : tie.Need-array-write-highs Inv-loop μ-loop Inv-loop2 μ-loop2
-array-write-highs c = omega arith
-
-add-j : tie.Need-add-j Inv-loop μ-loop Inv-loop2 μ-loop2
-add-j c = omega arith
-
-loop-less : tie.Need-loop-less Inv-loop μ-loop Inv-loop2 μ-loop2
-loop-less c = omega arith
-
 loop-again : tie.Need-loop-again Inv-loop μ-loop Inv-loop2 μ-loop2
 loop-again c =
     let l = c .before .before .loop in
@@ -54,32 +33,8 @@ loop-again c =
 loop2-holds : tie.Need-loop2-holds Inv-loop μ-loop Inv-loop2 μ-loop2
 loop2-holds c = (omega arith, omega arith, sym (no-columns 15 (now (c .before .before .before .args .s))))
 
-cast-at : tie.Need-cast-at Inv-loop μ-loop Inv-loop2 μ-loop2
-cast-at c = omega arith
-
-mul-share : tie.Need-mul-share Inv-loop μ-loop Inv-loop2 μ-loop2
-mul-share c = omega arith
-
-array-read-share : tie.Need-array-read-share Inv-loop μ-loop Inv-loop2 μ-loop2
-array-read-share c = omega arith
-
-mul-share-2 : tie.Need-mul-share-2 Inv-loop μ-loop Inv-loop2 μ-loop2
-mul-share-2 c = omega arith
-
-array-read-share-2 : tie.Need-array-read-share-2 Inv-loop μ-loop Inv-loop2 μ-loop2
-array-read-share-2 c = omega arith
-
 share-requires : tie.Need-share-requires Inv-loop μ-loop Inv-loop2 μ-loop2
 share-requires c κs = let f = c .before .before .before .loop .inv .3 (c .before .loop2 .k) (omega arith) in (omega arith, f .2, f .3)
-
-add-sum : tie.Need-add-sum Inv-loop μ-loop Inv-loop2 μ-loop2
-add-sum c = omega arith
-
-add-k : tie.Need-add-k Inv-loop μ-loop Inv-loop2 μ-loop2
-add-k c = omega arith
-
-loop2-less : tie.Need-loop2-less Inv-loop μ-loop Inv-loop2 μ-loop2
-loop2-less c = omega arith
 
 loop2-again : tie.Need-loop2-again Inv-loop μ-loop Inv-loop2 μ-loop2
 unfolding columnShare
@@ -104,24 +59,7 @@ weigh-columns-spec =
     μ-loop
     Inv-loop2
     μ-loop2
-    loop-holds
-    column-requires
-    mul-lows
-    array-write-lows
-    mul-highs
-    array-write-highs
-    add-j
-    loop-less
-    loop-again
-    loop2-holds
-    cast-at
-    mul-share
-    array-read-share
-    mul-share-2
-    array-read-share-2
-    share-requires
-    add-sum
-    add-k
-    loop2-less
-    loop2-again
-    returns)
+    loop-holds (λ c κs. search needs) (λ c. omega arith) (λ c. omega arith) (λ c. omega arith)
+    (λ c. omega arith) (λ c. omega arith) (λ c. omega arith) loop-again loop2-holds
+    (λ c. omega arith) (λ c. omega arith) (λ c. omega arith) (λ c. omega arith) (λ c. omega arith)
+    share-requires (λ c. omega arith) (λ c. omega arith) (λ c. omega arith) loop2-again returns)

@@ -24,28 +24,10 @@ zeros-requires c κs = tt
 returns : tie.Need-returns Inv-loop μ-loop Inv-loop2 μ-loop2
 returns c = c .zeros .ensures
 
-line-requires : tie.Need-line-requires Inv-loop μ-loop Inv-loop2 μ-loop2
-line-requires c κs = omega arith
-
-line-requires-2 : tie.Need-line-requires-2 Inv-loop μ-loop Inv-loop2 μ-loop2
-line-requires-2 c κs = omega arith
-
 loop-holds : tie.Need-loop-holds Inv-loop μ-loop Inv-loop2 μ-loop2
 loop-holds c =
     let a = c .before .before .before .before .args in
     (omega arith, rw (c .before .line .ensures, c .line2 .ensures) (scanned-ends (now (a .s)) (a .lead) (omega arith) (omega arith)))
-
-sub-loop : tie.Need-sub-loop Inv-loop μ-loop Inv-loop2 μ-loop2
-sub-loop c = omega arith
-
-piece-requires : tie.Need-piece-requires Inv-loop μ-loop Inv-loop2 μ-loop2
-piece-requires c κs = omega arith
-
-add-i : tie.Need-add-i Inv-loop μ-loop Inv-loop2 μ-loop2
-add-i c = omega arith
-
-loop-less : tie.Need-loop-less Inv-loop μ-loop Inv-loop2 μ-loop2
-loop-less c = omega arith
 
 loop-again : tie.Need-loop-again Inv-loop μ-loop Inv-loop2 μ-loop2
 loop-again c =
@@ -54,18 +36,6 @@ loop-again c =
 
 loop2-holds : tie.Need-loop2-holds Inv-loop μ-loop Inv-loop2 μ-loop2
 loop2-holds c = c .before .loop .inv
-
-sub-loop2 : tie.Need-sub-loop2 Inv-loop μ-loop Inv-loop2 μ-loop2
-sub-loop2 c = omega arith
-
-line-requires-3 : tie.Need-line-requires-3 Inv-loop μ-loop Inv-loop2 μ-loop2
-line-requires-3 c κs = omega arith
-
-add-i-2 : tie.Need-add-i-2 Inv-loop μ-loop Inv-loop2 μ-loop2
-add-i-2 c = omega arith
-
-loop2-less : tie.Need-loop2-less Inv-loop μ-loop Inv-loop2 μ-loop2
-loop2-less c = omega arith
 
 loop2-again : tie.Need-loop2-again Inv-loop μ-loop Inv-loop2 μ-loop2
 loop2-again c =
@@ -85,20 +55,7 @@ zero-run-spec =
     μ-loop
     Inv-loop2
     μ-loop2
-    zeros-requires
-    returns
-    line-requires
-    line-requires-2
-    loop-holds
-    sub-loop
-    piece-requires
-    add-i
-    loop-less
-    loop-again
-    loop2-holds
-    sub-loop2
-    line-requires-3
-    add-i-2
-    loop2-less
-    loop2-again
+    zeros-requires returns (λ c κs. omega arith) (λ c κs. omega arith) loop-holds (λ c. omega arith)
+    (λ c κs. omega arith) (λ c. omega arith) (λ c. omega arith) loop-again loop2-holds
+    (λ c. omega arith) (λ c κs. omega arith) (λ c. omega arith) (λ c. omega arith) loop2-again
     returns-2)

@@ -5,9 +5,6 @@ use borrow.Author.Needs.{needs}
 use Rattle.command.proofs.send.Statement.{statement}
 use Rattle.command.proofs.send.Tie as tie
 
-enum-known-x : tie.Need-enum-known-x
-enum-known-x c = search needs
-
 returns : tie.Need-returns
 returns c = not-three Send (c .before .args .x) (c .match .keys2)
 
@@ -28,4 +25,4 @@ returns-3 c = rw (c .before .before .x .given .1, c .if1 .left)
 
 pub send-spec : {M : Type 1} → statement M
 send-spec =
-    tie.close (tie.spec enum-known-x returns cast-t10 cast-t11 cast-t12 returns-2 returns-3)
+    tie.close (tie.spec (λ c. search needs) returns cast-t10 cast-t11 cast-t12 returns-2 returns-3)

@@ -20,9 +20,6 @@ Inv-loop area₀ i x row j₀ area j = (j ≤ 8) × (length area ≡ length area
 abbrev μ-loop : tie.MeasureT-loop
 μ-loop area₀ i x row j₀ area j = 8 - j
 
-mul-row : tie.Need-mul-row Inv-loop μ-loop
-mul-row c = search needs
-
 array-copy-out-row : tie.Need-array-copy-out-row Inv-loop μ-loop
 array-copy-out-row c = c .before .pre .0
 
@@ -44,20 +41,11 @@ put-linked-requires c κs =
       λ h. omega (arith, first-held (r .config) (r .state) (g .args .i) _ (l .area) (l .j) (g .pre .0) (omega arith) q, r .room (l .j) (omega arith) (row-linked (r .config) (g .args .i) (l .j) _ w h)),
     )
 
-add-j : tie.Need-add-j Inv-loop μ-loop
-add-j c = search needs
-
-loop-less : tie.Need-loop-less Inv-loop μ-loop
-loop-less c = search needs
-
 loop-again : tie.Need-loop-again Inv-loop μ-loop
 loop-again c =
     let g = c .before .before .before .before .before .before .before .before in
     let l = c .before .before .before .before .before .loop in
     (omega arith, omega (arith, c .before .before .put-linked .kept .0), λ d s r p. c .before .before .put-linked .ensures d _ r (l .inv .2 d s r p) ∙ ap (image d) (first-more d s (g .args .i) _ (l .j)))
-
-same-length : tie.Need-same-length Inv-loop μ-loop
-same-length c = omega arith
 
 returns : tie.Need-returns Inv-loop μ-loop
 returns c = λ d s r p.
@@ -72,12 +60,5 @@ put-all-spec =
     (tie.spec
     Inv-loop
     μ-loop
-    mul-row
-    array-copy-out-row
-    loop-holds
-    put-linked-requires
-    add-j
-    loop-less
-    loop-again
-    same-length
-    returns)
+    (λ c. search needs) array-copy-out-row loop-holds put-linked-requires (λ c. search needs)
+    (λ c. search needs) loop-again (λ c. omega arith) returns)

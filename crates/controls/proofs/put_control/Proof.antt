@@ -12,34 +12,22 @@ use borrow.Author.Needs.{needs}
 use Rattle.controls.proofs.put_control.Statement.{statement}
 use Rattle.controls.proofs.put_control.Tie as tie
 
-control-requires : tie.Need-control-requires
-control-requires c κs = search needs
-
 put-all-requires : tie.Need-put-all-requires
 put-all-requires c κs =
     let g = c .before .before .before .before in
     let e : length (itemOf (g .args .kind)) ≡ 1 = ap length (items-req (g .args .kind) (c .before .before .if1 .taken)) in
     (g .pre .0, less-room _ 1 (omega arith) (g .pre .1))
 
-same-length : tie.Need-same-length
-same-length c = search needs
-
 returns : tie.Need-returns
 returns c = λ d s r p.
     let g = c .before .before .before .before .before .before .before in
     c .before .before .put-all .ensures d s r p ∙ ap (image d) (ap (putOnAll d s (g .args .i)) (control-req _ (c .before .before .before .control .ensures .0)) ∙ ap (putItems d s (g .args .i)) (sym (items-req (g .args .kind) (c .before .before .before .before .before .if1 .taken))))
-
-control-requires-2 : tie.Need-control-requires-2
-control-requires-2 c κs = search needs
 
 put-all-requires-2 : tie.Need-put-all-requires-2
 put-all-requires-2 c κs =
     let g = c .before .before .before .before .before in
     let e : length (itemOf (g .args .kind)) ≡ 1 = ap length (items-done (g .args .kind) (c .before .before .if2 .taken)) in
     (g .pre .0, less-room _ 1 (omega arith) (g .pre .1))
-
-same-length-2 : tie.Need-same-length-2
-same-length-2 c = search needs
 
 returns-2 : tie.Need-returns-2
 returns-2 c = λ d s r p.
@@ -55,12 +43,5 @@ pub put-control-spec : {M : Type 1} → statement M
 put-control-spec =
     tie.close
     (tie.spec
-    control-requires
-    put-all-requires
-    same-length
-    returns
-    control-requires-2
-    put-all-requires-2
-    same-length-2
-    returns-2
-    returns-3)
+    (λ c κs. search needs) put-all-requires (λ c. search needs) returns (λ c κs. search needs)
+    put-all-requires-2 (λ c. search needs) returns-2 returns-3)

@@ -20,9 +20,6 @@ put-control-requires-2 c κs =
     let r = g .pre .1 in
     (g .pre .0, room-after _ (itemOf (g .args .first)) (itemOf (g .args .second)) r (c .before .before .before .put-control .ensures (r .config) (r .state) (r .limits) (r .is)))
 
-same-length : tie.Need-same-length
-same-length c = search needs
-
 returns : tie.Need-returns
 returns c = λ d s r p.
     let g = c .before .before .before .before .before .before .before .before .before in
@@ -30,4 +27,4 @@ returns c = λ d s r p.
 
 pub put-controls-spec : {M : Type 1} → statement M
 put-controls-spec =
-    tie.close (tie.spec put-control-requires put-control-requires-2 same-length returns)
+    tie.close (tie.spec put-control-requires put-control-requires-2 (λ c. search needs) returns)

@@ -5,9 +5,6 @@ use borrow.Author.Needs.{needs}
 use Rattle.controls.proofs.put_linked.Statement.{statement}
 use Rattle.controls.proofs.put_linked.Tie as tie
 
-array-read-if1 : tie.Need-array-read-if1
-array-read-if1 c = search needs
-
 returns : tie.Need-returns
 returns c = λ d s r p.
     let g = c .before .before in
@@ -18,9 +15,6 @@ push-at-requires c κs =
     let g = c .before .before .before in
     (g .pre .0, g .pre .1, g .pre .2, g .pre .3 (c .before .if1 .left))
 
-same-length : tie.Need-same-length
-same-length c = search needs
-
 returns-2 : tie.Need-returns-2
 returns-2 c = λ d s r p.
     let g = c .before .before .before .before .before .before in
@@ -28,4 +22,4 @@ returns-2 c = λ d s r p.
 
 pub put-linked-spec : {M : Type 1} → statement M
 put-linked-spec =
-    tie.close (tie.spec array-read-if1 returns push-at-requires same-length returns-2)
+    tie.close (tie.spec (λ c. search needs) returns push-at-requires (λ c. search needs) returns-2)

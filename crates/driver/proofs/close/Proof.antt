@@ -12,27 +12,6 @@ use Rattle.driver.specs.Run.{standing}
 use Rattle.driver.proofs.close.Statement.{statement}
 use Rattle.driver.proofs.close.Tie as tie
 
-enum-told : tie.Need-enum-told
-enum-told c = search needs
-
-enum-told-2 : tie.Need-enum-told-2
-enum-told-2 c = search needs
-
-set-up-requires : tie.Need-set-up-requires
-set-up-requires c κs = search needs
-
-refused-requires : tie.Need-refused-requires
-refused-requires c κs = search needs
-
-same-length : tie.Need-same-length
-same-length c = search needs
-
-same-length-2 : tie.Need-same-length-2
-same-length-2 c = search needs
-
-same-length-3 : tie.Need-same-length-3
-same-length-3 c = search needs
-
 returns : tie.Need-returns
 returns c =
     let u = c .before .before .before .before .before .before .before .before .before .set-up .ensures in
@@ -42,25 +21,10 @@ returns c =
       rw (t (now (g .block)) (now (g .area)) .run) tt,
     )
 
-staged-requires : tie.Need-staged-requires
-staged-requires c κs = search needs
-
-enum-told-3 : tie.Need-enum-told-3
-enum-told-3 c = search needs
-
-enum-told-4 : tie.Need-enum-told-4
-enum-told-4 c = search needs
-
 returns-2 : tie.Need-returns-2
 returns-2 c =
     let g = c .before .before .before .before .before .args in
     (closed-stage (standing (g .run) (now (g .block)) (now (g .area))) Opening (c .enum-told .given .1) (record { run = refl; block = refl; area = refl; text = written-none _ _; short = omega arith }), c .before .before .before .before .before .pre .2)
-
-same-length-4 : tie.Need-same-length-4
-same-length-4 c = search needs
-
-same-length-5 : tie.Need-same-length-5
-same-length-5 c = search needs
 
 returns-3 : tie.Need-returns-3
 returns-3 c =
@@ -86,20 +50,7 @@ pub close-spec : {M : Type 1} → statement M
 close-spec =
     tie.close
     (tie.spec
-    enum-told
-    enum-told-2
-    set-up-requires
-    refused-requires
-    same-length
-    same-length-2
-    same-length-3
-    returns
-    staged-requires
-    enum-told-3
-    enum-told-4
-    returns-2
-    same-length-4
-    same-length-5
-    returns-3
-    returns-4
-    returns-5)
+    (λ c. search needs) (λ c. search needs) (λ c κs. search needs) (λ c κs. search needs)
+    (λ c. search needs) (λ c. search needs) (λ c. search needs) returns (λ c κs. search needs)
+    (λ c. search needs) (λ c. search needs) returns-2 (λ c. search needs) (λ c. search needs)
+    returns-3 returns-4 returns-5)

@@ -9,23 +9,8 @@ use Rattle.driver.specs.Run.{lastNumber}
 use Rattle.driver.proofs.made.Statement.{statement}
 use Rattle.driver.proofs.made.Tie as tie
 
-staged-requires : tie.Need-staged-requires
-staged-requires c κs = search needs
-
 returns : tie.Need-returns
 returns c = λ b a o e f. rw (eq-eqb _ lastNumber (c .before .if1 .taken)) (record { run = c .staged .ensures; block = refl; area = f; text = written-none _ _; short = omega arith })
-
-add-number : tie.Need-add-number
-add-number c = search needs
-
-numbered-requires : tie.Need-numbered-requires
-numbered-requires c κs = search needs
-
-answered-requires : tie.Need-answered-requires
-answered-requires c κs = search needs
-
-same-length : tie.Need-same-length
-same-length c = search needs
 
 returns-2 : tie.Need-returns-2
 returns-2 c = λ b a o e f.
@@ -37,10 +22,5 @@ pub made-spec : {M : Type 1} → statement M
 made-spec =
     tie.close
     (tie.spec
-    staged-requires
-    returns
-    add-number
-    numbered-requires
-    answered-requires
-    same-length
-    returns-2)
+    (λ c κs. search needs) returns (λ c. search needs) (λ c κs. search needs) (λ c κs. search needs)
+    (λ c. search needs) returns-2)

@@ -9,54 +9,18 @@ use Rattle.driver.specs.Run.{standing}
 use Rattle.driver.proofs.obey.Statement.{statement}
 use Rattle.driver.proofs.obey.Tie as tie
 
-enum-told : tie.Need-enum-told
-enum-told c = search needs
-
-opening-requires : tie.Need-opening-requires
-opening-requires c κs = search needs
-
-enum-told-2 : tie.Need-enum-told-2
-enum-told-2 c = search needs
-
-setting-requires : tie.Need-setting-requires
-setting-requires c κs = search needs
-
-enum-told-3 : tie.Need-enum-told-3
-enum-told-3 c = search needs
-
 stepping-requires : tie.Need-stepping-requires
 stepping-requires c κs = (c .before .before .before .before .before .before .before .pre .0, rw (c .before .before .enum-told3 .given .1) at (c .before .before .before .before .before .before .before .pre .2))
-
-enum-told-4 : tie.Need-enum-told-4
-enum-told-4 c = search needs
-
-same-length : tie.Need-same-length
-same-length c = search needs
 
 returns : tie.Need-returns
 returns c =
     let g = c .before .before .before .before .before .before .before .before .before .args in
     (in-stage (standing (g .run) (now (g .block)) (now (g .area))) Opening (c .before .before .before .before .enum-told .given .1) (g .c) (c .before .before .opening .ensures .0 _ _), c .before .before .opening .ensures .1 _ (c .before .before .before .before .before .before .before .before .before .pre .2))
 
-same-length-2 : tie.Need-same-length-2
-same-length-2 c = search needs
-
-same-length-3 : tie.Need-same-length-3
-same-length-3 c = search needs
-
-same-length-4 : tie.Need-same-length-4
-same-length-4 c = search needs
-
 returns-2 : tie.Need-returns-2
 returns-2 c =
     let g = c .before .before .before .before .before .before .before .before .before .before .before .before .before .before .before .args in
     (in-stage (standing (g .run) (now (g .block)) (now (g .area))) Setting (c .before .before .before .before .before .before .before .before .before .before .enum-told2 .given .1) (g .c) (c .before .before .before .before .before .before .setting .ensures .0), c .before .before .before .before .before .before .setting .ensures .1)
-
-same-length-5 : tie.Need-same-length-5
-same-length-5 c = search needs
-
-same-length-6 : tie.Need-same-length-6
-same-length-6 c = search needs
 
 returns-3 : tie.Need-returns-3
 returns-3 c =
@@ -72,20 +36,7 @@ pub obey-spec : {M : Type 1} → statement M
 obey-spec =
     tie.close
     (tie.spec
-    enum-told
-    opening-requires
-    enum-told-2
-    setting-requires
-    enum-told-3
-    stepping-requires
-    enum-told-4
-    same-length
-    returns
-    same-length-2
-    same-length-3
-    same-length-4
-    returns-2
-    same-length-5
-    same-length-6
-    returns-3
-    returns-4)
+    (λ c. search needs) (λ c κs. search needs) (λ c. search needs) (λ c κs. search needs)
+    (λ c. search needs) stepping-requires (λ c. search needs) (λ c. search needs) returns
+    (λ c. search needs) (λ c. search needs) (λ c. search needs) returns-2 (λ c. search needs)
+    (λ c. search needs) returns-3 returns-4)

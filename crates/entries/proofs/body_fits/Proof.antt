@@ -11,29 +11,14 @@ use borrow.Author.Needs.{needs}
 use Rattle.entries.proofs.body_fits.Statement.{statement}
 use Rattle.entries.proofs.body_fits.Tie as tie
 
-sub-start-of : tie.Need-sub-start-of
-sub-start-of c = search needs
-
-start-of-requires : tie.Need-start-of-requires
-start-of-requires c κs = search needs
-
 add-end : tie.Need-add-end
 add-end c = omega (arith, start-is (c .before .before .args .count - 1) (omega arith), c .start-of .ensures)
-
-sub-records-fit : tie.Need-sub-records-fit
-sub-records-fit c = search needs
-
-part-records-fit-start : tie.Need-part-records-fit-start
-part-records-fit-start c = search needs
 
 part-records-fit-end : tie.Need-part-records-fit-end
 part-records-fit-end c = omega (arith, start-is (c .before .before .args .count - 1) (omega arith), c .start-of .ensures)
 
 records-fit-requires : tie.Need-records-fit-requires
 records-fit-requires c κs = (simp (length-take, length-drop) (omega (arith, start-is (c .before .before .before .args .count - 1) (omega arith), c .before .start-of .ensures)), omega arith)
-
-tail-fits-requires : tie.Need-tail-fits-requires
-tail-fits-requires c κs = search needs
 
 returns : tie.Need-returns
 unfolding bodyFits
@@ -48,12 +33,5 @@ pub body-fits-spec : {M : Type 1} → statement M
 body-fits-spec =
     tie.close
     (tie.spec
-    sub-start-of
-    start-of-requires
-    add-end
-    sub-records-fit
-    part-records-fit-start
-    part-records-fit-end
-    records-fit-requires
-    tail-fits-requires
-    returns)
+    (λ c. search needs) (λ c κs. search needs) add-end (λ c. search needs) (λ c. search needs)
+    part-records-fit-end records-fit-requires (λ c κs. search needs) returns)

@@ -3,14 +3,8 @@ use borrow.Author.Needs.{needs}
 use Rattle.entries.proofs.count_of.Statement.{statement}
 use Rattle.entries.proofs.count_of.Tie as tie
 
-shared-slice-read-result : tie.Need-shared-slice-read-result
-shared-slice-read-result c = search needs
-
 cast-result : tie.Need-cast-result
 cast-result c = omega (arith, c .shared-slice-known .given 1)
 
-returns : tie.Need-returns
-returns c = search needs
-
 pub count-of-spec : {M : Type 1} → statement M
-count-of-spec = tie.close (tie.spec shared-slice-read-result cast-result returns)
+count-of-spec = tie.close (tie.spec (λ c. search needs) cast-result (λ c. search needs))

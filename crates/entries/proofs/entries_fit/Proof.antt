@@ -3,12 +3,9 @@ use borrow.Author.Needs.{needs}
 use Rattle.entries.proofs.entries_fit.Statement.{statement}
 use Rattle.entries.proofs.entries_fit.Tie as tie
 
-records-fit-requires : tie.Need-records-fit-requires
-records-fit-requires c κs = search needs
-
 returns : tie.Need-returns
 unfolding entriesFit
 returns c = rw (c .records-fit .ensures)
 
 pub entries-fit-spec : {M : Type 1} → statement M
-entries-fit-spec = tie.close (tie.spec records-fit-requires returns)
+entries-fit-spec = tie.close (tie.spec (λ c κs. search needs) returns)

@@ -9,9 +9,6 @@ use borrow.Author.Needs.{needs}
 use Rattle.entries.proofs.read.Statement.{statement}
 use Rattle.entries.proofs.read.Tie as tie
 
-well-made-requires : tie.Need-well-made-requires
-well-made-requires c κs = search needs
-
 returns : tie.Need-returns
 unfolding readEntries
 returns c = rw (sym (c .before .well-made .ensures) ∙ not-true _ (c .if1 .taken))
@@ -28,4 +25,4 @@ returns-2 c = rw (sym (c .before .before .before .well-made .ensures) ∙ not-fa
 
 pub read-spec : {M : Type 1} → statement M
 read-spec =
-    tie.close (tie.spec well-made-requires returns get32-requires shared-slice-read-t6 returns-2)
+    tie.close (tie.spec (λ c κs. search needs) returns get32-requires shared-slice-read-t6 returns-2)

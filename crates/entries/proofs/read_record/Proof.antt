@@ -9,9 +9,6 @@ use borrow.Author.Needs.{needs}
 use Rattle.entries.proofs.read_record.Statement.{statement}
 use Rattle.entries.proofs.read_record.Tie as tie
 
-well-made-requires : tie.Need-well-made-requires
-well-made-requires c κs = search needs
-
 returns : tie.Need-returns
 unfolding readRecord
 returns c = rw (sym (c .before .well-made .ensures) ∙ not-true _ (c .if1 .taken)) (refl, refl)
@@ -33,20 +30,8 @@ start-of-requires c κs = let p = well-made-count (now (c .before .before .befor
 add-e : tie.Need-add-e
 add-e c = let p = well-made-count (now (c .before .before .before .before .before .before .before .before .args .s)) (sym (c .before .before .before .before .before .well-made .ensures) ∙ not-false _ (c .before .before .before .before .if1 .left)) in omega (arith, c .before .before .before .count-of .ensures, start-is (c .before .before .before .before .before .before .before .before .args .k) (omega (arith, c .before .before .before .count-of .ensures)), c .start-of .ensures)
 
-sub-put-bytes : tie.Need-sub-put-bytes
-sub-put-bytes c = search needs
-
-part-put-bytes-start : tie.Need-part-put-bytes-start
-part-put-bytes-start c = search needs
-
 part-put-bytes-end : tie.Need-part-put-bytes-end
 part-put-bytes-end c = let p = well-made-count (now (c .before .before .before .before .before .before .before .before .before .args .s)) (sym (c .before .before .before .before .before .before .well-made .ensures) ∙ not-false _ (c .before .before .before .before .before .if1 .left)) in let n = well-made-length (now (c .before .before .before .before .before .before .before .before .before .args .s)) (sym (c .before .before .before .before .before .before .well-made .ensures) ∙ not-false _ (c .before .before .before .before .before .if1 .left)) in omega (arith, c .before .before .before .before .count-of .ensures, start-is (c .before .before .before .before .before .before .before .before .before .args .k) (omega (arith, c .before .before .before .before .count-of .ensures)), c .before .start-of .ensures)
-
-put-bytes-requires : tie.Need-put-bytes-requires
-put-bytes-requires c κs = search needs
-
-same-length : tie.Need-same-length
-same-length c = search needs
 
 returns-4 : tie.Need-returns-4
 unfolding readRecord recordOf
@@ -60,16 +45,6 @@ pub read-record-spec : {M : Type 1} → statement M
 read-record-spec =
     tie.close
     (tie.spec
-    well-made-requires
-    returns
-    count-of-requires
-    returns-2
-    returns-3
-    start-of-requires
-    add-e
-    sub-put-bytes
-    part-put-bytes-start
-    part-put-bytes-end
-    put-bytes-requires
-    same-length
-    returns-4)
+    (λ c κs. search needs) returns count-of-requires returns-2 returns-3 start-of-requires add-e
+    (λ c. search needs) (λ c. search needs) part-put-bytes-end (λ c κs. search needs)
+    (λ c. search needs) returns-4)

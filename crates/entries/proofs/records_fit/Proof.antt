@@ -27,24 +27,6 @@ abbrev μ-loop : tie.MeasureT-loop
 loop-holds : tie.Need-loop-holds Inv-loop μ-loop
 loop-holds c = (omega arith, every-none _)
 
-mul-o : tie.Need-mul-o Inv-loop μ-loop
-mul-o c = omega arith
-
-add-e : tie.Need-add-e Inv-loop μ-loop
-add-e c = omega arith
-
-sub-well-made : tie.Need-sub-well-made Inv-loop μ-loop
-sub-well-made c = omega arith
-
-part-well-made-start : tie.Need-part-well-made-start Inv-loop μ-loop
-part-well-made-start c = omega arith
-
-part-well-made-end : tie.Need-part-well-made-end Inv-loop μ-loop
-part-well-made-end c = omega arith
-
-well-made-requires : tie.Need-well-made-requires Inv-loop μ-loop
-well-made-requires c κs = search needs
-
 returns : tie.Need-returns Inv-loop μ-loop
 unfolding recordsFit
 returns c =
@@ -52,12 +34,6 @@ returns c =
     let rs = now (c .before .before .before .before .before .before .args .rs) in
     sym (every-fails (c .before .before .before .before .before .before .args .count) (λ (k : ℕ). wellMadeRecord (take 32 (drop (k * 32) rs))) k (omega arith)
     (tested rs k (c .before .well-made .result) (c .before .well-made .ensures) ∙ not-true _ (c .if1 .taken)))
-
-add-k : tie.Need-add-k Inv-loop μ-loop
-add-k c = omega arith
-
-loop-less : tie.Need-loop-less Inv-loop μ-loop
-loop-less c = omega arith
 
 loop-again : tie.Need-loop-again Inv-loop μ-loop
 loop-again c =
@@ -75,15 +51,6 @@ records-fit-spec =
     (tie.spec
     Inv-loop
     μ-loop
-    loop-holds
-    mul-o
-    add-e
-    sub-well-made
-    part-well-made-start
-    part-well-made-end
-    well-made-requires
-    returns
-    add-k
-    loop-less
-    loop-again
-    returns-2)
+    loop-holds (λ c. omega arith) (λ c. omega arith) (λ c. omega arith) (λ c. omega arith)
+    (λ c. omega arith) (λ c κs. search needs) returns (λ c. omega arith) (λ c. omega arith)
+    loop-again returns-2)

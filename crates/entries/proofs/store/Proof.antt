@@ -16,36 +16,6 @@ use borrow.Author.Needs.{needs}
 use Rattle.entries.proofs.store.Statement.{statement}
 use Rattle.entries.proofs.store.Tie as tie
 
-add-end : tie.Need-add-end
-add-end c = search needs
-
-cast-store-front : tie.Need-cast-store-front
-cast-store-front c = search needs
-
-store-front-requires : tie.Need-store-front-requires
-store-front-requires c κs = search needs
-
-put32-requires : tie.Need-put32-requires
-put32-requires c κs = search needs
-
-put-zeros-requires : tie.Need-put-zeros-requires
-put-zeros-requires c κs = search needs
-
-put-bytes-requires : tie.Need-put-bytes-requires
-put-bytes-requires c κs = search needs
-
-sub-put-zeros : tie.Need-sub-put-zeros
-sub-put-zeros c = search needs
-
-put-zeros-requires-2 : tie.Need-put-zeros-requires-2
-put-zeros-requires-2 c κs = search needs
-
-seal-requires : tie.Need-seal-requires
-seal-requires c κs = search needs
-
-same-length : tie.Need-same-length
-same-length c = search needs
-
 returns : tie.Need-returns
 unfolding imageEntries entriesBody
 returns c =
@@ -70,14 +40,6 @@ pub store-spec : {M : Type 1} → statement M
 store-spec =
     tie.close
     (tie.spec
-    add-end
-    cast-store-front
-    store-front-requires
-    put32-requires
-    put-zeros-requires
-    put-bytes-requires
-    sub-put-zeros
-    put-zeros-requires-2
-    seal-requires
-    same-length
-    returns)
+    (λ c. search needs) (λ c. search needs) (λ c κs. search needs) (λ c κs. search needs)
+    (λ c κs. search needs) (λ c κs. search needs) (λ c. search needs) (λ c κs. search needs)
+    (λ c κs. search needs) (λ c. search needs) returns)

@@ -6,25 +6,10 @@ use borrow.Author.Needs.{needs}
 use Rattle.entries.proofs.store_front.Statement.{statement}
 use Rattle.entries.proofs.store_front.Tie as tie
 
-slice-write-d : tie.Need-slice-write-d
-slice-write-d c = search needs
-
-slice-write-d-2 : tie.Need-slice-write-d-2
-slice-write-d-2 c = search needs
-
-slice-write-d-3 : tie.Need-slice-write-d-3
-slice-write-d-3 c = search needs
-
-slice-write-d-4 : tie.Need-slice-write-d-4
-slice-write-d-4 c = search needs
-
-same-length : tie.Need-same-length
-same-length c = search needs
-
 returns : tie.Need-returns
 returns c = stored (2 ∷ c .args .count ∷ 0 ∷ 0 ∷ []) (now (c .args .d)) 0 (omega arith)
 
 pub store-front-spec : {M : Type 1} → statement M
 store-front-spec =
     tie.close
-    (tie.spec slice-write-d slice-write-d-2 slice-write-d-3 slice-write-d-4 same-length returns)
+    (tie.spec (λ c. search needs) (λ c. search needs) (λ c. search needs) (λ c. search needs) (λ c. search needs) returns)

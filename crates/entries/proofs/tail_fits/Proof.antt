@@ -8,12 +8,6 @@ use Rattle.entries.proofs.Laws.{start-is, tail-split}
 use Rattle.entries.proofs.tail_fits.Statement.{statement}
 use Rattle.entries.proofs.tail_fits.Tie as tie
 
-sub-start-of : tie.Need-sub-start-of
-sub-start-of c = search needs
-
-start-of-requires : tie.Need-start-of-requires
-start-of-requires c κs = search needs
-
 add-end : tie.Need-add-end
 add-end c = omega (arith, start-is (c .before .before .args .count - 1) (omega arith), c .start-of .ensures)
 
@@ -22,24 +16,6 @@ sub-zeros c = omega (arith, start-is (c .before .before .args .count - 1) (omega
 
 part-zeros-start : tie.Need-part-zeros-start
 part-zeros-start c = omega (arith, start-is (c .before .before .args .count - 1) (omega arith), c .start-of .ensures)
-
-part-zeros-end : tie.Need-part-zeros-end
-part-zeros-end c = search needs
-
-zeros-requires : tie.Need-zeros-requires
-zeros-requires c κs = search needs
-
-sub-zeros-2 : tie.Need-sub-zeros-2
-sub-zeros-2 c = search needs
-
-part-zeros-start-2 : tie.Need-part-zeros-start-2
-part-zeros-start-2 c = search needs
-
-part-zeros-end-2 : tie.Need-part-zeros-end-2
-part-zeros-end-2 c = search needs
-
-zeros-requires-2 : tie.Need-zeros-requires-2
-zeros-requires-2 c κs = search needs
 
 returns : tie.Need-returns
 unfolding recordsEnd
@@ -53,15 +29,6 @@ pub tail-fits-spec : {M : Type 1} → statement M
 tail-fits-spec =
     tie.close
     (tie.spec
-    sub-start-of
-    start-of-requires
-    add-end
-    sub-zeros
-    part-zeros-start
-    part-zeros-end
-    zeros-requires
-    sub-zeros-2
-    part-zeros-start-2
-    part-zeros-end-2
-    zeros-requires-2
-    returns)
+    (λ c. search needs) (λ c κs. search needs) add-end sub-zeros part-zeros-start
+    (λ c. search needs) (λ c κs. search needs) (λ c. search needs) (λ c. search needs)
+    (λ c. search needs) (λ c κs. search needs) returns)

@@ -13,15 +13,9 @@ returns : tie.Need-returns
 unfolding wellMadeEntries
 returns c = rw (ne-eqb _ 512 (c .if1 .taken))
 
-front-fits-requires : tie.Need-front-fits-requires
-front-fits-requires c κs = search needs
-
 returns-2 : tie.Need-returns-2
 unfolding wellMadeEntries
 returns-2 c = rw (eq-eqb _ 512 (c .before .before .if1 .left), sym (c .before .front-fits .ensures) ∙ not-true _ (c .if2 .taken))
-
-count-of-requires : tie.Need-count-of-requires
-count-of-requires c κs = search needs
 
 body-fits-requires : tie.Need-body-fits-requires
 body-fits-requires c κs =
@@ -35,4 +29,4 @@ returns-3 c = rw (eq-eqb _ 512 (c .before .before .before .before .if1 .left), s
 pub well-made-spec : {M : Type 1} → statement M
 well-made-spec =
     tie.close
-    (tie.spec returns front-fits-requires returns-2 count-of-requires body-fits-requires returns-3)
+    (tie.spec returns (λ c κs. search needs) returns-2 (λ c κs. search needs) body-fits-requires returns-3)

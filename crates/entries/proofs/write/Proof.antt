@@ -18,9 +18,6 @@ returns-2 : tie.Need-returns-2
 unfolding writeEntries
 returns-2 c = rw (ne-eqb _ 0 (c .before .if1 .left), lt-ltb 480 _ (c .if2 .taken)) (refl, refl)
 
-entries-fit-requires : tie.Need-entries-fit-requires
-entries-fit-requires c κs = search needs
-
 returns-3 : tie.Need-returns-3
 unfolding writeEntries
 returns-3 c = rw (ne-eqb _ 0 (c .before .before .before .if1 .left), le-ltb 480 _ (c .before .before .if2 .left), sym (c .before .entries-fit .ensures) ∙ not-true _ (c .if3 .taken)) (refl, refl)
@@ -28,21 +25,6 @@ returns-3 c = rw (ne-eqb _ 0 (c .before .before .before .if1 .left), le-ltb 480 
 returns-4 : tie.Need-returns-4
 unfolding writeEntries
 returns-4 c = rw (ne-eqb _ 0 (c .before .before .before .before .if1 .left), le-ltb 480 _ (c .before .before .before .if2 .left), sym (c .before .before .entries-fit .ensures) ∙ not-false _ (c .before .if3 .left), lt-ltb _ 512 (c .if4 .taken)) (refl, refl)
-
-sub-store : tie.Need-sub-store
-sub-store c = search needs
-
-part-store-start : tie.Need-part-store-start
-part-store-start c = search needs
-
-part-store-end : tie.Need-part-store-end
-part-store-end c = search needs
-
-store-requires : tie.Need-store-requires
-store-requires c κs = search needs
-
-same-length : tie.Need-same-length
-same-length c = search needs
 
 returns-5 : tie.Need-returns-5
 unfolding writeEntries
@@ -56,14 +38,5 @@ pub write-spec : {M : Type 1} → statement M
 write-spec =
     tie.close
     (tie.spec
-    returns
-    returns-2
-    entries-fit-requires
-    returns-3
-    returns-4
-    sub-store
-    part-store-start
-    part-store-end
-    store-requires
-    same-length
-    returns-5)
+    returns returns-2 (λ c κs. search needs) returns-3 returns-4 (λ c. search needs)
+    (λ c. search needs) (λ c. search needs) (λ c κs. search needs) (λ c. search needs) returns-5)

@@ -19,12 +19,6 @@ abbrev μ-loop : tie.MeasureT-loop
 loop-holds : tie.Need-loop-holds Inv-loop μ-loop
 loop-holds c = (omega arith, refl)
 
-shared-slice-read-x : tie.Need-shared-slice-read-x Inv-loop μ-loop
-shared-slice-read-x c = search needs
-
-is-digit-requires : tie.Need-is-digit-requires Inv-loop μ-loop
-is-digit-requires c κs = search needs
-
 returns : tie.Need-returns Inv-loop μ-loop
 returns c =
     let k = c .before .before .before .before in
@@ -32,9 +26,6 @@ returns c =
 
 mul-w : tie.Need-mul-w Inv-loop μ-loop
 mul-w c = omega (arith, c .before .before .before .before .loop .inv)
-
-wide-requires : tie.Need-wide-requires Inv-loop μ-loop
-wide-requires c κs = search needs
 
 sub-w : tie.Need-sub-w Inv-loop μ-loop
 sub-w c =
@@ -54,12 +45,6 @@ returns-2 c =
     let d = sym (c .before .before .before .is-digit .ensures) ∙ not-false _ (c .before .before .if1 .left) in
     sticks _ (k .loop .v) (k .loop .i) _ (c .before .wide .ensures .0) (omega arith) d (c .if2 .taken) ∙ k .loop .inv .1
 
-add-i : tie.Need-add-i Inv-loop μ-loop
-add-i c = search needs
-
-loop-less : tie.Need-loop-less Inv-loop μ-loop
-loop-less c = search needs
-
 loop-again : tie.Need-loop-again Inv-loop μ-loop
 loop-again c =
     let k = c .before .before .before .before .before .before in
@@ -75,16 +60,5 @@ digits-spec =
     (tie.spec
     Inv-loop
     μ-loop
-    loop-holds
-    shared-slice-read-x
-    is-digit-requires
-    returns
-    mul-w
-    wide-requires
-    sub-w
-    add-w
-    returns-2
-    add-i
-    loop-less
-    loop-again
-    returns-3)
+    loop-holds (λ c. search needs) (λ c κs. search needs) returns mul-w (λ c κs. search needs) sub-w
+    add-w returns-2 (λ c. search needs) (λ c. search needs) loop-again returns-3)

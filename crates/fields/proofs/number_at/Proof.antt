@@ -10,26 +10,11 @@ use Rattle.fields.proofs.number_at.Tie as tie
 returns : tie.Need-returns
 returns c = first-none _ (c .before .before .args .at) (c .if1 .taken)
 
-shared-slice-read-x : tie.Need-shared-slice-read-x
-shared-slice-read-x c = search needs
-
-is-digit-requires : tie.Need-is-digit-requires
-is-digit-requires c κs = search needs
-
 returns-2 : tie.Need-returns-2
 returns-2 c = first-bare _ (c .before .before .before .before .before .args .at) (omega arith) (sym (c .before .is-digit .ensures) ∙ not-true _ (c .if2 .taken))
 
-add-digits : tie.Need-add-digits
-add-digits c = search needs
-
-wide-requires : tie.Need-wide-requires
-wide-requires c κs = search needs
-
 sub-digits : tie.Need-sub-digits
 sub-digits c = omega (arith, c .wide .ensures, digit-range _ (sym (c .before .before .is-digit .ensures) ∙ not-false _ (c .before .if2 .left)))
-
-digits-requires : tie.Need-digits-requires
-digits-requires c κs = search needs
 
 returns-3 : tie.Need-returns-3
 returns-3 c =
@@ -40,12 +25,5 @@ pub number-at-spec : {M : Type 1} → statement M
 number-at-spec =
     tie.close
     (tie.spec
-    returns
-    shared-slice-read-x
-    is-digit-requires
-    returns-2
-    add-digits
-    wide-requires
-    sub-digits
-    digits-requires
-    returns-3)
+    returns (λ c. search needs) (λ c κs. search needs) returns-2 (λ c. search needs)
+    (λ c κs. search needs) sub-digits (λ c κs. search needs) returns-3)

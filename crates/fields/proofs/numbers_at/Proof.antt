@@ -4,21 +4,6 @@ use borrow.Author.Needs.{needs}
 use Rattle.fields.proofs.numbers_at.Statement.{statement}
 use Rattle.fields.proofs.numbers_at.Tie as tie
 
-number-at-requires : tie.Need-number-at-requires
-number-at-requires c κs = search needs
-
-enum-told : tie.Need-enum-told
-enum-told c = search needs
-
-enum-told-2 : tie.Need-enum-told-2
-enum-told-2 c = search needs
-
-enum-known-f : tie.Need-enum-known-f
-enum-known-f c = search needs
-
-second-requires : tie.Need-second-requires
-second-requires c κs = search needs
-
 returns : tie.Need-returns
 unfolding numbersOf
 returns c = rw (← c .before .before .number-at .ensures, c .enum-told .given .1)
@@ -35,11 +20,5 @@ pub numbers-at-spec : {M : Type 1} → statement M
 numbers-at-spec =
     tie.close
     (tie.spec
-    number-at-requires
-    enum-told
-    enum-told-2
-    enum-known-f
-    second-requires
-    returns
-    returns-2
-    returns-3)
+    (λ c κs. search needs) (λ c. search needs) (λ c. search needs) (λ c. search needs)
+    (λ c κs. search needs) returns returns-2 returns-3)

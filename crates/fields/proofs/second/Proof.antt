@@ -3,21 +3,6 @@ use borrow.Author.Needs.{needs}
 use Rattle.fields.proofs.second.Statement.{statement}
 use Rattle.fields.proofs.second.Tie as tie
 
-field-at-requires : tie.Need-field-at-requires
-field-at-requires c κs = search needs
-
-enum-told : tie.Need-enum-told
-enum-told c = search needs
-
-enum-told-2 : tie.Need-enum-told-2
-enum-told-2 c = search needs
-
-enum-known-f : tie.Need-enum-known-f
-enum-known-f c = search needs
-
-third-requires : tie.Need-third-requires
-third-requires c κs = search needs
-
 returns : tie.Need-returns
 returns c = rw (← c .before .before .field-at .ensures, c .enum-told .given .1)
 
@@ -31,11 +16,5 @@ pub second-spec : {M : Type 1} → statement M
 second-spec =
     tie.close
     (tie.spec
-    field-at-requires
-    enum-told
-    enum-told-2
-    enum-known-f
-    third-requires
-    returns
-    returns-2
-    returns-3)
+    (λ c κs. search needs) (λ c. search needs) (λ c. search needs) (λ c. search needs)
+    (λ c κs. search needs) returns returns-2 returns-3)

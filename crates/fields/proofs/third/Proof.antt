@@ -3,18 +3,6 @@ use borrow.Author.Needs.{needs}
 use Rattle.fields.proofs.third.Statement.{statement}
 use Rattle.fields.proofs.third.Tie as tie
 
-field-at-requires : tie.Need-field-at-requires
-field-at-requires c κs = search needs
-
-enum-told : tie.Need-enum-told
-enum-told c = search needs
-
-enum-told-2 : tie.Need-enum-told-2
-enum-told-2 c = search needs
-
-enum-known-f : tie.Need-enum-known-f
-enum-known-f c = search needs
-
 returns : tie.Need-returns
 returns c = rw (← c .before .before .field-at .ensures, c .enum-told .given .1)
 
@@ -31,11 +19,5 @@ pub third-spec : {M : Type 1} → statement M
 third-spec =
     tie.close
     (tie.spec
-    field-at-requires
-    enum-told
-    enum-told-2
-    enum-known-f
-    returns
-    returns-2
-    returns-3
-    returns-4)
+    (λ c κs. search needs) (λ c. search needs) (λ c. search needs) (λ c. search needs) returns
+    returns-2 returns-3 returns-4)

@@ -2,17 +2,8 @@ use borrow.Author.Needs.{needs}
 use Rattle.header.proofs.load.Statement.{statement}
 use Rattle.header.proofs.load.Tie as tie
 
-get-row-requires : tie.Need-get-row-requires
-get-row-requires c κs = search needs
-
-shared-slice-read-t4 : tie.Need-shared-slice-read-t4
-shared-slice-read-t4 c = search needs
-
-get16-requires : tie.Need-get16-requires
-get16-requires c κs = search needs
-
 returns : tie.Need-returns
 returns c = cc
 
 pub load-spec : {M : Type 1} → statement M
-load-spec = tie.close (tie.spec get-row-requires shared-slice-read-t4 get16-requires returns)
+load-spec = tie.close (tie.spec (λ c κs. search needs) (λ c. search needs) (λ c κs. search needs) returns)

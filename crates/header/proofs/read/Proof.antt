@@ -6,9 +6,6 @@ use Rattle.header.proofs.Laws.{well-made-length}
 use Rattle.header.proofs.read.Statement.{statement}
 use Rattle.header.proofs.read.Tie as tie
 
-well-made-requires : tie.Need-well-made-requires
-well-made-requires c κs = search needs
-
 returns : tie.Need-returns
 unfolding readHeader
 returns c = rw (sym (c .before .well-made .ensures) ∙ not-true _ (c .if1 .taken)) refl
@@ -21,4 +18,4 @@ unfolding readHeader
 returns-2 c = rw (sym (c .before .before .well-made .ensures) ∙ not-false _ (c .before .if1 .left)) (cc)
 
 pub read-spec : {M : Type 1} → statement M
-read-spec = tie.close (tie.spec well-made-requires returns load-requires returns-2)
+read-spec = tie.close (tie.spec (λ c κs. search needs) returns load-requires returns-2)

@@ -15,12 +15,6 @@ returns : tie.Need-returns
 unfolding wellMadeHeader
 returns c = rw (ne-eqb _ 512 (c .if1 .taken))
 
-shared-slice-read-if2 : tie.Need-shared-slice-read-if2
-shared-slice-read-if2 c = search needs
-
-fields-fit-requires : tie.Need-fields-fit-requires
-fields-fit-requires c κs = search needs
-
 returns-2 : tie.Need-returns-2
 returns-2 c =
     let f = c .before in
@@ -28,27 +22,12 @@ returns-2 c =
     let k = ap (λ (x : Bool). eqb (getD l 0 0) 1 && x) (sym (f .fields-fit .ensures)) in
     rw (check-last l (f .before .before .if1 .left), k ∙ not-true _ (c .if2 .taken))
 
-rest-blank-requires : tie.Need-rest-blank-requires
-rest-blank-requires c κs = search needs
-
 returns-3 : tie.Need-returns-3
 returns-3 c =
     let f = c .before .before .before in
     let l = now (f .before .before .before .before .args .s) in
     let k = ap (λ (x : Bool). eqb (getD l 0 0) 1 && x) (sym (f .fields-fit .ensures)) in
     rw (check-last l (f .before .before .if1 .left), k ∙ not-false _ (c .before .before .if2 .left), sym (c .before .rest-blank .ensures) ∙ not-true _ (c .if3 .taken))
-
-sub-zeros : tie.Need-sub-zeros
-sub-zeros c = search needs
-
-part-zeros-start : tie.Need-part-zeros-start
-part-zeros-start c = search needs
-
-part-zeros-end : tie.Need-part-zeros-end
-part-zeros-end c = search needs
-
-zeros-requires : tie.Need-zeros-requires
-zeros-requires c κs = search needs
 
 sealed-front-requires : tie.Need-sealed-front-requires
 sealed-front-requires c κs = (omega arith, sym (c .before .before .before .rest-blank .ensures) ∙ not-false _ (c .before .before .if3 .left))
@@ -65,15 +44,6 @@ pub well-made-spec : {M : Type 1} → statement M
 well-made-spec =
     tie.close
     (tie.spec
-    returns
-    shared-slice-read-if2
-    fields-fit-requires
-    returns-2
-    rest-blank-requires
-    returns-3
-    sub-zeros
-    part-zeros-start
-    part-zeros-end
-    zeros-requires
-    sealed-front-requires
-    returns-4)
+    returns (λ c. search needs) (λ c κs. search needs) returns-2 (λ c κs. search needs) returns-3
+    (λ c. search needs) (λ c. search needs) (λ c. search needs) (λ c κs. search needs)
+    sealed-front-requires returns-4)

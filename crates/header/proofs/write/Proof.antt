@@ -10,9 +10,6 @@ use Rattle.header.proofs.Laws.{image-length}
 use Rattle.header.proofs.write.Statement.{statement}
 use Rattle.header.proofs.write.Tie as tie
 
-header-fits-requires : tie.Need-header-fits-requires
-header-fits-requires c κs = search needs
-
 returns : tie.Need-returns
 unfolding writeHeader
 returns c = rw (sym (c .before .header-fits .ensures) ∙ not-true _ (c .if1 .taken)) (refl, refl)
@@ -20,21 +17,6 @@ returns c = rw (sym (c .before .header-fits .ensures) ∙ not-true _ (c .if1 .ta
 returns-2 : tie.Need-returns-2
 unfolding writeHeader
 returns-2 c = rw (sym (c .before .before .header-fits .ensures) ∙ not-false _ (c .before .if1 .left), lt-ltb _ 512 (c .if2 .taken)) (refl, refl)
-
-sub-store : tie.Need-sub-store
-sub-store c = search needs
-
-part-store-start : tie.Need-part-store-start
-part-store-start c = search needs
-
-part-store-end : tie.Need-part-store-end
-part-store-end c = search needs
-
-store-requires : tie.Need-store-requires
-store-requires c κs = search needs
-
-same-length : tie.Need-same-length
-same-length c = search needs
 
 returns-3 : tie.Need-returns-3
 unfolding writeHeader
@@ -47,12 +29,5 @@ pub write-spec : {M : Type 1} → statement M
 write-spec =
     tie.close
     (tie.spec
-    header-fits-requires
-    returns
-    returns-2
-    sub-store
-    part-store-start
-    part-store-end
-    store-requires
-    same-length
-    returns-3)
+    (λ c κs. search needs) returns returns-2 (λ c. search needs) (λ c. search needs)
+    (λ c. search needs) (λ c κs. search needs) (λ c. search needs) returns-3)

@@ -3,25 +3,13 @@ use borrow.Author.Needs.{needs}
 use Rattle.host.proofs.listed_number.Statement.{statement}
 use Rattle.host.proofs.listed_number.Tie as tie
 
-enum-known-answer : tie.Need-enum-known-answer
-enum-known-answer c = search needs
-
 add-result : tie.Need-add-result
 add-result c = omega (arith, rw (c .before .answer .given .1) at (c .before .before .before .pre))
-
-enum-known-answer-2 : tie.Need-enum-known-answer-2
-enum-known-answer-2 c = search needs
-
-cast-result : tie.Need-cast-result
-cast-result c = search needs
 
 returns : tie.Need-returns
 returns c = cc
 
-returns-2 : tie.Need-returns-2
-returns-2 c = search needs
-
 pub listed-number-spec : {M : Type 1} → statement M
 listed-number-spec =
     tie.close
-    (tie.spec enum-known-answer add-result enum-known-answer-2 cast-result returns returns-2)
+    (tie.spec (λ c. search needs) add-result (λ c. search needs) (λ c. search needs) returns (λ c. search needs))

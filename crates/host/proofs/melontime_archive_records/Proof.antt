@@ -8,9 +8,6 @@ use Rattle.host.proofs.Archives.{counted-small}
 use Rattle.host.proofs.melontime_archive_records.Statement.{statement}
 use Rattle.host.proofs.melontime_archive_records.Tie as tie
 
-count-requires : tie.Need-count-requires
-count-requires c κs = search needs
-
 counted-number-requires : tie.Need-counted-number-requires
 counted-number-requires c κs = rw (c .count .ensures) (counted-small (now (c .before .before .args .archive)) (omega arith))
 
@@ -19,4 +16,4 @@ returns c = c .counted-number .ensures ∙ ap (λ (x : Counted). countedNumber x
 
 pub melontime-archive-records-spec : {M : Type 1} → statement M
 melontime-archive-records-spec =
-    tie.close (tie.spec count-requires counted-number-requires returns)
+    tie.close (tie.spec (λ c κs. search needs) counted-number-requires returns)

@@ -8,12 +8,6 @@ use Rattle.host.proofs.Archives.{found-length, found-is}
 use Rattle.host.proofs.melontime_found_record.Statement.{statement}
 use Rattle.host.proofs.melontime_found_record.Tie as tie
 
-find-requires : tie.Need-find-requires
-find-requires c κs = search needs
-
-cast-result : tie.Need-cast-result
-cast-result c = search needs
-
 returns : tie.Need-returns
 unfolding recordFound
 returns c = rw (← c .before .find .ensures, ne-eqb _ 0 (c .if1 .taken)) (refl, refl)
@@ -22,18 +16,12 @@ returns-2 : tie.Need-returns-2
 unfolding recordFound
 returns-2 c = rw (← c .before .before .find .ensures, eq-eqb _ 0 (c .before .if1 .left), lt-ltb _ 32 (c .if2 .taken)) (refl, refl)
 
-record-at-requires : tie.Need-record-at-requires
-record-at-requires c κs = search needs
-
 put-bytes-requires : tie.Need-put-bytes-requires
 put-bytes-requires c κs =
     let g = c .before .before .before .before .before .before .before .args in
     let e = c .before .before .before .before .find .ensures in
     let n = found-length (now (g .archive)) (g .number) (sym e ∙ c .before .before .before .if1 .left) in
     rw (c .record-at .ensures, n) (omega arith)
-
-same-length : tie.Need-same-length
-same-length c = search needs
 
 returns-3 : tie.Need-returns-3
 unfolding recordFound
@@ -46,11 +34,5 @@ pub melontime-found-record-spec : {M : Type 1} → statement M
 melontime-found-record-spec =
     tie.close
     (tie.spec
-    find-requires
-    cast-result
-    returns
-    returns-2
-    record-at-requires
-    put-bytes-requires
-    same-length
-    returns-3)
+    (λ c κs. search needs) (λ c. search needs) returns returns-2 (λ c κs. search needs)
+    put-bytes-requires (λ c. search needs) returns-3)

@@ -5,14 +5,8 @@ use Rattle.host.specs.Numbers.{blockNumber}
 use Rattle.host.proofs.melontime_read_entries.Statement.{statement}
 use Rattle.host.proofs.melontime_read_entries.Tie as tie
 
-read-requires : tie.Need-read-requires
-read-requires c κs = search needs
-
-block-number-requires : tie.Need-block-number-requires
-block-number-requires c κs = search needs
-
 returns : tie.Need-returns
 returns c = c .block-number .ensures ∙ ap (λ (x : EntriesRead). blockNumber x) (c .before .read .ensures)
 
 pub melontime-read-entries-spec : {M : Type 1} → statement M
-melontime-read-entries-spec = tie.close (tie.spec read-requires block-number-requires returns)
+melontime-read-entries-spec = tie.close (tie.spec (λ c κs. search needs) (λ c κs. search needs) returns)

@@ -8,9 +8,6 @@ use Rattle.host.specs.Headers.{headerFields}
 use Rattle.host.proofs.melontime_read_header.Statement.{statement}
 use Rattle.host.proofs.melontime_read_header.Tie as tie
 
-well-made-requires : tie.Need-well-made-requires
-well-made-requires c κs = search needs
-
 returns : tie.Need-returns
 unfolding headerFields
 returns c = rw (sym (c .before .well-made .ensures) ∙ not-true _ (c .if1 .taken)) (refl, refl)
@@ -22,9 +19,6 @@ returns-2 c = rw (sym (c .before .before .well-made .ensures) ∙ not-false _ (c
 put-fields-requires : tie.Need-put-fields-requires
 put-fields-requires c κs = (well-made-length (now (c .before .before .before .before .before .before .args .block)) (sym (c .before .before .before .well-made .ensures) ∙ not-false _ (c .before .before .if1 .left)), omega arith)
 
-same-length : tie.Need-same-length
-same-length c = search needs
-
 returns-3 : tie.Need-returns-3
 unfolding headerFields
 returns-3 c = rw (sym (c .before .before .before .before .before .before .well-made .ensures) ∙ not-false _ (c .before .before .before .before .before .if1 .left), le-ltb _ 83 (c .before .before .before .before .if2 .left)) (refl, c .before .before .put-fields .ensures)
@@ -32,4 +26,4 @@ returns-3 c = rw (sym (c .before .before .before .before .before .before .well-m
 pub melontime-read-header-spec : {M : Type 1} → statement M
 melontime-read-header-spec =
     tie.close
-    (tie.spec well-made-requires returns returns-2 put-fields-requires same-length returns-3)
+    (tie.spec (λ c κs. search needs) returns returns-2 put-fields-requires (λ c. search needs) returns-3)

@@ -5,14 +5,8 @@ use Rattle.host.specs.Numbers.{restNumber}
 use Rattle.host.proofs.melontime_rest.Statement.{statement}
 use Rattle.host.proofs.melontime_rest.Tie as tie
 
-rest-requires : tie.Need-rest-requires
-rest-requires c κs = search needs
-
-rest-number-requires : tie.Need-rest-number-requires
-rest-number-requires c κs = search needs
-
 returns : tie.Need-returns
 returns c = c .rest-number .ensures ∙ ap (λ (x : RestAnswer). restNumber x) (c .before .rest .ensures)
 
 pub melontime-rest-spec : {M : Type 1} → statement M
-melontime-rest-spec = tie.close (tie.spec rest-requires rest-number-requires returns)
+melontime-rest-spec = tie.close (tie.spec (λ c κs. search needs) (λ c κs. search needs) returns)

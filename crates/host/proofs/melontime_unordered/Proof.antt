@@ -6,16 +6,10 @@ use Rattle.host.proofs.Archives.{listed-small, listing}
 use Rattle.host.proofs.melontime_unordered.Statement.{statement}
 use Rattle.host.proofs.melontime_unordered.Tie as tie
 
-unordered-requires : tie.Need-unordered-requires
-unordered-requires c κs = search needs
-
 listed-number-requires : tie.Need-listed-number-requires
 listed-number-requires c κs =
     let g = c .before .before .before .before .before .before .args in
     rw (c .before .before .unordered .ensures .answers) (listed-small (now (g .archive)) (g .number) (length (now (g .list))) (omega arith))
-
-same-length : tie.Need-same-length
-same-length c = search needs
 
 returns : tie.Need-returns
 returns c =
@@ -24,4 +18,4 @@ returns c =
 
 pub melontime-unordered-spec : {M : Type 1} → statement M
 melontime-unordered-spec =
-    tie.close (tie.spec unordered-requires listed-number-requires same-length returns)
+    tie.close (tie.spec (λ c κs. search needs) listed-number-requires (λ c. search needs) returns)

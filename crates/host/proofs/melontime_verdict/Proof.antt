@@ -5,14 +5,8 @@ use Rattle.host.specs.Numbers.{verdictNumber}
 use Rattle.host.proofs.melontime_verdict.Statement.{statement}
 use Rattle.host.proofs.melontime_verdict.Tie as tie
 
-compare-requires : tie.Need-compare-requires
-compare-requires c κs = search needs
-
-verdict-number-requires : tie.Need-verdict-number-requires
-verdict-number-requires c κs = search needs
-
 returns : tie.Need-returns
 returns c = c .verdict-number .ensures ∙ ap (λ (x : Compared). verdictNumber x) (c .before .compare .ensures)
 
 pub melontime-verdict-spec : {M : Type 1} → statement M
-melontime-verdict-spec = tie.close (tie.spec compare-requires verdict-number-requires returns)
+melontime-verdict-spec = tie.close (tie.spec (λ c κs. search needs) (λ c κs. search needs) returns)

@@ -8,9 +8,6 @@ use Rattle.host.proofs.Headers.{fit-parts}
 use Rattle.host.proofs.melontime_write_header.Statement.{statement}
 use Rattle.host.proofs.melontime_write_header.Tie as tie
 
-fields-fit-requires : tie.Need-fields-fit-requires
-fields-fit-requires c κs = search needs
-
 returns : tie.Need-returns
 unfolding headerWritten
 returns c = rw (sym (c .before .fields-fit .ensures) ∙ not-true _ (c .if1 .taken)) (refl, refl)
@@ -27,15 +24,6 @@ header-of-requires c κs = fit-parts _ _ (now (c .before .before .before .before
 table-at-requires : tie.Need-table-at-requires
 table-at-requires c κs = omega (arith, fit-parts _ _ (now (c .before .before .before .before .before .before .args .allowances)) (now (c .before .before .before .before .before .before .args .limits)) (sym (c .before .before .fields-fit .ensures) ∙ not-false _ (c .before .if1 .left)) .1)
 
-write-requires : tie.Need-write-requires
-write-requires c κs = search needs
-
-cast-result : tie.Need-cast-result
-cast-result c = search needs
-
-same-length : tie.Need-same-length
-same-length c = search needs
-
 returns-2 : tie.Need-returns-2
 unfolding headerWritten
 returns-2 c =
@@ -45,13 +33,5 @@ pub melontime-write-header-spec : {M : Type 1} → statement M
 melontime-write-header-spec =
     tie.close
     (tie.spec
-    fields-fit-requires
-    returns
-    cast-header-of
-    cast-header-of-2
-    header-of-requires
-    table-at-requires
-    write-requires
-    cast-result
-    same-length
-    returns-2)
+    (λ c κs. search needs) returns cast-header-of cast-header-of-2 header-of-requires
+    table-at-requires (λ c κs. search needs) (λ c. search needs) (λ c. search needs) returns-2)

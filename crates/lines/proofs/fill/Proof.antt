@@ -16,26 +16,11 @@ abbrev μ-loop : tie.MeasureT-loop
 loop-holds : tie.Need-loop-holds Inv-loop μ-loop
 loop-holds c = let a = c .before .before .args in filling-none (a .line .now) (a .bytes .now) (a .have) (a .at) (omega arith) (omega arith) (omega arith)
 
-shared-slice-read-b : tie.Need-shared-slice-read-b Inv-loop μ-loop
-shared-slice-read-b c = search needs
-
-add-i : tie.Need-add-i Inv-loop μ-loop
-add-i c = search needs
-
-same-length : tie.Need-same-length Inv-loop μ-loop
-same-length c = search needs
-
 returns : tie.Need-returns Inv-loop μ-loop
 returns c =
     let a = c .before .before .before .before .before .before .args in
     let l = c .before .before .before .loop in
     filled-whole (a .line .now) (a .have) (a .bytes .now) (a .at) (l .line) (l .n) (l .i) (l .inv) _ (c .before .before .loop-test .taken) (c .if1 .taken) refl refl refl
-
-keep-requires : tie.Need-keep-requires Inv-loop μ-loop
-keep-requires c κs = search needs
-
-loop-less : tie.Need-loop-less Inv-loop μ-loop
-loop-less c = search needs
 
 loop-again : tie.Need-loop-again Inv-loop μ-loop
 loop-again c =
@@ -43,9 +28,6 @@ loop-again c =
     let l = c .before .before .before .before .before .before .before .loop in
     let k = c .before .before .keep in
     filling-more (a .line .now) (a .have) (a .bytes .now) (a .at) (l .line) (l .n) (l .i) (l .inv) (k .last .0) (k .result) (omega arith) (c .before .before .before .before .if1 .left) (omega arith) (k .ensures .0) (k .ensures .1)
-
-same-length-2 : tie.Need-same-length-2 Inv-loop μ-loop
-same-length-2 c = search needs
 
 returns-2 : tie.Need-returns-2 Inv-loop μ-loop
 returns-2 c =
@@ -59,13 +41,5 @@ fill-spec =
     (tie.spec
     Inv-loop
     μ-loop
-    loop-holds
-    shared-slice-read-b
-    add-i
-    same-length
-    returns
-    keep-requires
-    loop-less
-    loop-again
-    same-length-2
-    returns-2)
+    loop-holds (λ c. search needs) (λ c. search needs) (λ c. search needs) returns
+    (λ c κs. search needs) (λ c. search needs) loop-again (λ c. search needs) returns-2)

@@ -8,11 +8,8 @@ use Rattle.lines.proofs.said.Tie as tie
 slice-aggregate-parse : tie.Need-slice-aggregate-parse
 slice-aggregate-parse c = simp length-take (omega arith)
 
-parse-requires : tie.Need-parse-requires
-parse-requires c κs = search needs
-
 returns : tie.Need-returns
 returns c = kept-says _ _ (c .parse .result) (c .parse .ensures .1)
 
 pub said-spec : {M : Type 1} → statement M
-said-spec = tie.close (tie.spec slice-aggregate-parse parse-requires returns)
+said-spec = tie.close (tie.spec slice-aggregate-parse (λ c κs. search needs) returns)

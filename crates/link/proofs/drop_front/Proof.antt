@@ -11,18 +11,6 @@ use borrow.Author.Needs.{needs}
 use Rattle.link.proofs.drop_front.Statement.{statement}
 use Rattle.link.proofs.drop_front.Tie as tie
 
-sub-n : tie.Need-sub-n
-sub-n c = search needs
-
-shift-requires : tie.Need-shift-requires
-shift-requires c κs = search needs
-
-put-zeros-requires : tie.Need-put-zeros-requires
-put-zeros-requires c κs = search needs
-
-same-length : tie.Need-same-length
-same-length c = search needs
-
 returns : tie.Need-returns
 returns c =
     let b = c .before .before in
@@ -37,4 +25,4 @@ returns c =
     b .put-zeros .ensures ∙ rw (t, z, append-nil)
 
 pub drop-front-spec : {M : Type 1} → statement M
-drop-front-spec = tie.close (tie.spec sub-n shift-requires put-zeros-requires same-length returns)
+drop-front-spec = tie.close (tie.spec (λ c. search needs) (λ c κs. search needs) (λ c κs. search needs) (λ c. search needs) returns)

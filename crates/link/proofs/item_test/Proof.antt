@@ -13,30 +13,9 @@ use borrow.Author.Needs.{needs}
 use Rattle.link.proofs.item_test.Statement.{statement}
 use Rattle.link.proofs.item_test.Tie as tie
 
-shared-slice-read-kind : tie.Need-shared-slice-read-kind
-shared-slice-read-kind c = search needs
-
-get-row-requires : tie.Need-get-row-requires
-get-row-requires c κs = search needs
-
-counts-fit-requires : tie.Need-counts-fit-requires
-counts-fit-requires c κs = search needs
-
 returns : tie.Need-returns
 unfolding itemTest countsFit isStation fit
 returns c = rw (eq-eqb _ 1 (c .before .before .if1 .taken)) (c .counts-fit .ensures ∙ ap (fit _ _) (c .before .get-row .ensures))
-
-sub-zeros : tie.Need-sub-zeros
-sub-zeros c = search needs
-
-part-zeros-start : tie.Need-part-zeros-start
-part-zeros-start c = search needs
-
-part-zeros-end : tie.Need-part-zeros-end
-part-zeros-end c = search needs
-
-zeros-requires : tie.Need-zeros-requires
-zeros-requires c κs = search needs
 
 returns-2 : tie.Need-returns-2
 unfolding itemTest
@@ -49,12 +28,5 @@ pub item-test-spec : {M : Type 1} → statement M
 item-test-spec =
     tie.close
     (tie.spec
-    shared-slice-read-kind
-    get-row-requires
-    counts-fit-requires
-    returns
-    sub-zeros
-    part-zeros-start
-    part-zeros-end
-    zeros-requires
-    returns-2)
+    (λ c. search needs) (λ c κs. search needs) (λ c κs. search needs) returns (λ c. search needs)
+    (λ c. search needs) (λ c. search needs) (λ c κs. search needs) returns-2)

@@ -19,36 +19,12 @@ Inv-loop places n t part b count k₀ k = (k ≤ count) × (every k (itemTestAt 
 abbrev μ-loop : tie.MeasureT-loop
 μ-loop places n t part b count k₀ k = count - k
 
-shared-slice-read-b : tie.Need-shared-slice-read-b Inv-loop μ-loop
-shared-slice-read-b c = search needs
-
 returns : tie.Need-returns Inv-loop μ-loop
 unfolding itemsTest
 returns c = rw (lt-leb _ _ (c .if1 .taken))
 
-cast-count : tie.Need-cast-count Inv-loop μ-loop
-cast-count c = search needs
-
 loop-holds : tie.Need-loop-holds Inv-loop μ-loop
 loop-holds c = (omega arith, every-none _)
-
-mul-o : tie.Need-mul-o Inv-loop μ-loop
-mul-o c = search needs
-
-add-o : tie.Need-add-o Inv-loop μ-loop
-add-o c = search needs
-
-add-e : tie.Need-add-e Inv-loop μ-loop
-add-e c = search needs
-
-sub-item-test : tie.Need-sub-item-test Inv-loop μ-loop
-sub-item-test c = search needs
-
-part-item-test-start : tie.Need-part-item-test-start Inv-loop μ-loop
-part-item-test-start c = search needs
-
-part-item-test-end : tie.Need-part-item-test-end Inv-loop μ-loop
-part-item-test-end c = search needs
 
 item-test-requires : tie.Need-item-test-requires Inv-loop μ-loop
 item-test-requires c κs = simp (length-take, length-drop) (omega arith)
@@ -69,12 +45,6 @@ returns-2 c =
     let s = l .before .before .before in
     rw (le-leb _ _ (l .if1 .left), every-fails (getD (now (s .args .part)) 0 0) _ (c .before .before .before .before .loop .k) (omega arith) (tested (c .before) ∙ not-true _ (c .if2 .taken)))
 
-add-k : tie.Need-add-k Inv-loop μ-loop
-add-k c = search needs
-
-loop-less : tie.Need-loop-less Inv-loop μ-loop
-loop-less c = search needs
-
 loop-again : tie.Need-loop-again Inv-loop μ-loop
 loop-again c =
     let l = c .before .before .before .before .loop in
@@ -94,19 +64,7 @@ items-fit-spec =
     (tie.spec
     Inv-loop
     μ-loop
-    shared-slice-read-b
-    returns
-    cast-count
-    loop-holds
-    mul-o
-    add-o
-    add-e
-    sub-item-test
-    part-item-test-start
-    part-item-test-end
-    item-test-requires
-    returns-2
-    add-k
-    loop-less
-    loop-again
-    returns-3)
+    (λ c. search needs) returns (λ c. search needs) loop-holds (λ c. search needs)
+    (λ c. search needs) (λ c. search needs) (λ c. search needs) (λ c. search needs)
+    (λ c. search needs) item-test-requires returns-2 (λ c. search needs) (λ c. search needs)
+    loop-again returns-3)

@@ -12,39 +12,6 @@ use borrow.Author.Needs.{needs}
 use Rattle.link.proofs.pop.Statement.{statement}
 use Rattle.link.proofs.pop.Tie as tie
 
-slice-read-b : tie.Need-slice-read-b
-slice-read-b c = search needs
-
-cast-count : tie.Need-cast-count
-cast-count c = search needs
-
-mul-e : tie.Need-mul-e
-mul-e c = search needs
-
-add-e : tie.Need-add-e
-add-e c = search needs
-
-sub-drop-front : tie.Need-sub-drop-front
-sub-drop-front c = search needs
-
-part-drop-front-start : tie.Need-part-drop-front-start
-part-drop-front-start c = search needs
-
-part-drop-front-end : tie.Need-part-drop-front-end
-part-drop-front-end c = search needs
-
-drop-front-requires : tie.Need-drop-front-requires
-drop-front-requires c κs = search needs
-
-sub-part : tie.Need-sub-part
-sub-part c = search needs
-
-slice-write-part : tie.Need-slice-write-part
-slice-write-part c = search needs
-
-same-length : tie.Need-same-length
-same-length c = search needs
-
 returns : tie.Need-returns
 returns c = λ x q e.
     let t = c .before .before in
@@ -63,15 +30,6 @@ pub pop-spec : {M : Type 1} → statement M
 pop-spec =
     tie.close
     (tie.spec
-    slice-read-b
-    cast-count
-    mul-e
-    add-e
-    sub-drop-front
-    part-drop-front-start
-    part-drop-front-end
-    drop-front-requires
-    sub-part
-    slice-write-part
-    same-length
-    returns)
+    (λ c. search needs) (λ c. search needs) (λ c. search needs) (λ c. search needs)
+    (λ c. search needs) (λ c. search needs) (λ c. search needs) (λ c κs. search needs)
+    (λ c. search needs) (λ c. search needs) (λ c. search needs) returns)

@@ -13,42 +13,6 @@ use borrow.Author.Needs.{needs}
 use Rattle.link.proofs.push.Statement.{statement}
 use Rattle.link.proofs.push.Tie as tie
 
-slice-read-b : tie.Need-slice-read-b
-slice-read-b c = search needs
-
-cast-count : tie.Need-cast-count
-cast-count c = search needs
-
-mul-o : tie.Need-mul-o
-mul-o c = search needs
-
-add-o : tie.Need-add-o
-add-o c = search needs
-
-add-e : tie.Need-add-e
-add-e c = search needs
-
-sub-store : tie.Need-sub-store
-sub-store c = search needs
-
-part-store-start : tie.Need-part-store-start
-part-store-start c = search needs
-
-part-store-end : tie.Need-part-store-end
-part-store-end c = search needs
-
-store-requires : tie.Need-store-requires
-store-requires c κs = search needs
-
-add-part : tie.Need-add-part
-add-part c = search needs
-
-slice-write-part : tie.Need-slice-write-part
-slice-write-part c = search needs
-
-same-length : tie.Need-same-length
-same-length c = search needs
-
 returns : tie.Need-returns
 returns c = λ q e.
     let t = c .before .before in
@@ -66,16 +30,6 @@ pub push-spec : {M : Type 1} → statement M
 push-spec =
     tie.close
     (tie.spec
-    slice-read-b
-    cast-count
-    mul-o
-    add-o
-    add-e
-    sub-store
-    part-store-start
-    part-store-end
-    store-requires
-    add-part
-    slice-write-part
-    same-length
-    returns)
+    (λ c. search needs) (λ c. search needs) (λ c. search needs) (λ c. search needs)
+    (λ c. search needs) (λ c. search needs) (λ c. search needs) (λ c. search needs)
+    (λ c κs. search needs) (λ c. search needs) (λ c. search needs) (λ c. search needs) returns)

@@ -15,26 +15,8 @@ Inv-loop d₀ k n i₀ d i = (i ≤ n) × (n + k ≡ length d₀) × (length d �
 abbrev μ-loop : tie.MeasureT-loop
 μ-loop d₀ k n i₀ d i = n - i
 
-sub-n : tie.Need-sub-n Inv-loop μ-loop
-sub-n c = omega arith
-
 loop-holds : tie.Need-loop-holds Inv-loop μ-loop
 loop-holds c = (omega arith, omega arith, refl, refl)
-
-add-d : tie.Need-add-d Inv-loop μ-loop
-add-d c = omega arith
-
-slice-read-d : tie.Need-slice-read-d Inv-loop μ-loop
-slice-read-d c = omega arith
-
-slice-write-d : tie.Need-slice-write-d Inv-loop μ-loop
-slice-write-d c = omega arith
-
-add-i : tie.Need-add-i Inv-loop μ-loop
-add-i c = omega arith
-
-loop-less : tie.Need-loop-less Inv-loop μ-loop
-loop-less c = omega arith
 
 loop-again : tie.Need-loop-again Inv-loop μ-loop
 loop-again c =
@@ -44,9 +26,6 @@ loop-again c =
     let m : length s ≡ length (now (a .d)) - a .k = length-drop (a .k) (now (a .d)) in
     let g : getD (l .d) (l .i + a .k) 0 ≡ getD s (l .i) 0 = rw (l .inv .3) (shift-ahead (now (a .d)) (l .i) (a .k) (omega arith)) in
     (omega arith, omega arith, simp length-set (omega arith), rw (g, l .inv .3) (copy-turn (now (a .d)) s (l .i) (omega arith) (omega arith)))
-
-same-length : tie.Need-same-length Inv-loop μ-loop
-same-length c = omega arith
 
 returns : tie.Need-returns Inv-loop μ-loop
 returns c =
@@ -64,13 +43,5 @@ shift-spec =
     (tie.spec
     Inv-loop
     μ-loop
-    sub-n
-    loop-holds
-    add-d
-    slice-read-d
-    slice-write-d
-    add-i
-    loop-less
-    loop-again
-    same-length
-    returns)
+    (λ c. omega arith) loop-holds (λ c. omega arith) (λ c. omega arith) (λ c. omega arith)
+    (λ c. omega arith) (λ c. omega arith) loop-again (λ c. omega arith) returns)

@@ -19,15 +19,6 @@ front-set (x ∷ l) vs d b e n =
     let z : drop (1 + length vs) (x ∷ l) ≡ [] = drop-of-length-le (x ∷ l) {i = 1 + length vs} (omega arith) in
     rw (e, z, append-nil)
 
-put32-requires : tie.Need-put32-requires
-put32-requires c κs = search needs
-
-put-row-requires : tie.Need-put-row-requires
-put-row-requires c κs = search needs
-
-slice-write-part : tie.Need-slice-write-part
-slice-write-part c = search needs
-
 same-length : tie.Need-same-length
 same-length c = simp length-set (omega arith)
 
@@ -46,4 +37,4 @@ returns c =
 
 pub store-fields-spec : {M : Type 1} → statement M
 store-fields-spec =
-    tie.close (tie.spec put32-requires put-row-requires slice-write-part same-length returns)
+    tie.close (tie.spec (λ c κs. search needs) (λ c κs. search needs) (λ c. search needs) same-length returns)

@@ -9,39 +9,12 @@ use borrow.Author.Needs.{needs}
 use Rattle.place.proofs.push_at.Statement.{statement}
 use Rattle.place.proofs.push_at.Tie as tie
 
-mul-o : tie.Need-mul-o
-mul-o c = search needs
-
-add-o : tie.Need-add-o
-add-o c = search needs
-
-mul-o-2 : tie.Need-mul-o-2
-mul-o-2 c = search needs
-
-add-o-2 : tie.Need-add-o-2
-add-o-2 c = search needs
-
-add-e : tie.Need-add-e
-add-e c = search needs
-
-sub-push : tie.Need-sub-push
-sub-push c = search needs
-
-part-push-start : tie.Need-part-push-start
-part-push-start c = search needs
-
-part-push-end : tie.Need-part-push-end
-part-push-end c = search needs
-
 push-requires : tie.Need-push-requires
 push-requires c κs =
     let g = c .before .before in
     let k : ℕ = g .args .i * 8 + g .args .j in
     let e = part-bytes (now (g .args .area)) k (888 + k * 715 + 715 - (888 + k * 715)) (omega arith) in
     (simp (length-take, length-drop) (omega arith), rw e (g .pre .3))
-
-same-length : tie.Need-same-length
-same-length c = search needs
 
 returns : tie.Need-returns
 returns c = λ d s p.
@@ -57,14 +30,6 @@ pub push-at-spec : {M : Type 1} → statement M
 push-at-spec =
     tie.close
     (tie.spec
-    mul-o
-    add-o
-    mul-o-2
-    add-o-2
-    add-e
-    sub-push
-    part-push-start
-    part-push-end
-    push-requires
-    same-length
-    returns)
+    (λ c. search needs) (λ c. search needs) (λ c. search needs) (λ c. search needs)
+    (λ c. search needs) (λ c. search needs) (λ c. search needs) (λ c. search needs) push-requires
+    (λ c. search needs) returns)

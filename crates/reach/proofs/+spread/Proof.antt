@@ -42,14 +42,6 @@ spread-returns t c =
     let h : 8 ≤ first 8 (joins (b .before .args .limits) (b .before .args .seen)) = omega (arith, b .next .ensures) in
     sym (spread-none _ _ _ h)
 
-spread-array-write-more : (t : ℕ) → spread-lts.Need-array-write-more (
-  next-reads.Asked,
-  next-reads.Learnt,
-  spread-below t,
-  spread.Post,
-) (spread-at t) spread.Post
-spread-array-write-more t c = omega arith
-
 spread-spread-requires : (t : ℕ) → spread-lts.Need-spread-requires (
   next-reads.Asked,
   next-reads.Learnt,
@@ -82,8 +74,5 @@ pub +spread-spec : {M : Type 1} → statement M
 )
     (spread-at t)
     spread.Post
-    (spread-next-requires t)
-    (spread-returns t)
-    (spread-array-write-more t)
-    (spread-spread-requires t)
+    (spread-next-requires t) (spread-returns t) (λ c. omega arith) (spread-spread-requires t)
     (spread-returns-2 t)

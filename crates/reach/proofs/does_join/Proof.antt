@@ -6,19 +6,13 @@ use borrow.Author.Needs.{needs}
 use Rattle.reach.proofs.does_join.Statement.{statement}
 use Rattle.reach.proofs.does_join.Tie as tie
 
-array-read-if1 : tie.Need-array-read-if1
-array-read-if1 c = search needs
-
 returns : tie.Need-returns
 unfolding joins
 returns c = rw (ne-eqb _ _ (c .if1 .taken))
-
-is-apart-requires : tie.Need-is-apart-requires
-is-apart-requires c κs = search needs
 
 returns-2 : tie.Need-returns-2
 unfolding joins
 returns-2 c = rw (eq-eqb _ _ (c .before .if1 .left)) (ap not (c .is-apart .ensures))
 
 pub does-join-spec : {M : Type 1} → statement M
-does-join-spec = tie.close (tie.spec array-read-if1 returns is-apart-requires returns-2)
+does-join-spec = tie.close (tie.spec (λ c. search needs) returns (λ c κs. search needs) returns-2)

@@ -20,14 +20,8 @@ abbrev μ-loop : tie.MeasureT-loop
 returns : tie.Need-returns Inv-loop μ-loop
 returns c = sym (not-above _ _ (c .if1 .taken))
 
-spread-requires : tie.Need-spread-requires Inv-loop μ-loop
-spread-requires c κs = search needs
-
 loop-holds : tie.Need-loop-holds Inv-loop μ-loop
 loop-holds c = (omega arith, omega arith, every-none _)
-
-array-read-if2 : tie.Need-array-read-if2 Inv-loop μ-loop
-array-read-if2 c = search needs
 
 returns-2 : tie.Need-returns-2 Inv-loop μ-loop
 unfolding everyReached
@@ -35,12 +29,6 @@ returns-2 c =
     let l = c .before .before .loop in
     let e = c .before .before .before .spread .ensures in
     sym (rw e at (every-fails (c .before .before .before .before .before .args .n) (isSeen (c .before .before .before .spread .result)) (l .i) (omega arith) (ap not (eq-eqb _ _ (c .if2 .taken)))))
-
-add-i : tie.Need-add-i Inv-loop μ-loop
-add-i c = search needs
-
-loop-less : tie.Need-loop-less Inv-loop μ-loop
-loop-less c = search needs
 
 loop-again : tie.Need-loop-again Inv-loop μ-loop
 loop-again c =
@@ -60,12 +48,5 @@ every-reached-spec =
     (tie.spec
     Inv-loop
     μ-loop
-    returns
-    spread-requires
-    loop-holds
-    array-read-if2
-    returns-2
-    add-i
-    loop-less
-    loop-again
-    returns-3)
+    returns (λ c κs. search needs) loop-holds (λ c. search needs) returns-2 (λ c. search needs)
+    (λ c. search needs) loop-again returns-3)

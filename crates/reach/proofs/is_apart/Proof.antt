@@ -18,27 +18,9 @@ abbrev μ-loop : tie.MeasureT-loop
 loop-holds : tie.Need-loop-holds Inv-loop μ-loop
 loop-holds c = (omega arith, every-none _)
 
-array-read-s : tie.Need-array-read-s Inv-loop μ-loop
-array-read-s c = search needs
-
-mul-l : tie.Need-mul-l Inv-loop μ-loop
-mul-l c = search needs
-
-index-1-l : tie.Need-index-1-l Inv-loop μ-loop
-index-1-l c = search needs
-
-index-2-l : tie.Need-index-2-l Inv-loop μ-loop
-index-2-l c = search needs
-
 returns : tie.Need-returns Inv-loop μ-loop
 unfolding apart linked limit
 returns c = sym (every-fails 8 _ (c .before .before .before .loop .i) (omega arith) (ap not (c .if1 .taken)))
-
-add-i : tie.Need-add-i Inv-loop μ-loop
-add-i c = search needs
-
-loop-less : tie.Need-loop-less Inv-loop μ-loop
-loop-less c = search needs
 
 loop-again : tie.Need-loop-again Inv-loop μ-loop
 unfolding linked limit
@@ -54,13 +36,5 @@ is-apart-spec =
     (tie.spec
     Inv-loop
     μ-loop
-    loop-holds
-    array-read-s
-    mul-l
-    index-1-l
-    index-2-l
-    returns
-    add-i
-    loop-less
-    loop-again
-    returns-2)
+    loop-holds (λ c. search needs) (λ c. search needs) (λ c. search needs) (λ c. search needs)
+    returns (λ c. search needs) (λ c. search needs) loop-again returns-2)

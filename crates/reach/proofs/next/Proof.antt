@@ -18,17 +18,8 @@ abbrev μ-loop : tie.MeasureT-loop
 loop-holds : tie.Need-loop-holds Inv-loop μ-loop
 loop-holds c = (omega arith, below-none _)
 
-does-join-requires : tie.Need-does-join-requires Inv-loop μ-loop
-does-join-requires c κs = search needs
-
 returns : tie.Need-returns Inv-loop μ-loop
 returns c = let l = c .before .before .before .loop in sym (first-at 8 _ (l .j) (omega arith) (l .inv .1) (sym (c .before .does-join .ensures) ∙ c .if1 .taken))
-
-add-j : tie.Need-add-j Inv-loop μ-loop
-add-j c = search needs
-
-loop-less : tie.Need-loop-less Inv-loop μ-loop
-loop-less c = search needs
 
 loop-again : tie.Need-loop-again Inv-loop μ-loop
 loop-again c = let l = c .before .before .before .loop in (omega arith, below-more _ (l .j) (l .inv .1) (sym (c .before .does-join .ensures) ∙ c .if1 .left))
@@ -46,10 +37,5 @@ next-spec =
     (tie.spec
     Inv-loop
     μ-loop
-    loop-holds
-    does-join-requires
-    returns
-    add-j
-    loop-less
-    loop-again
+    loop-holds (λ c κs. search needs) returns (λ c. search needs) (λ c. search needs) loop-again
     returns-2)

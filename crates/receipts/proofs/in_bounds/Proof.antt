@@ -13,18 +13,6 @@ use borrow.Author.Needs.{needs}
 use Rattle.receipts.proofs.in_bounds.Statement.{statement}
 use Rattle.receipts.proofs.in_bounds.Tie as tie
 
-weight-requires : tie.Need-weight-requires
-weight-requires c κs = search needs
-
-weight-requires-2 : tie.Need-weight-requires-2
-weight-requires-2 c κs = search needs
-
-add-room : tie.Need-add-room
-add-room c = search needs
-
-room-requires : tie.Need-room-requires
-room-requires c κs = search needs
-
 returns : tie.Need-returns
 unfolding inBoundsAfter
 returns c =
@@ -34,4 +22,4 @@ returns c =
 
 pub in-bounds-spec : {M : Type 1} → statement M
 in-bounds-spec =
-    tie.close (tie.spec weight-requires weight-requires-2 add-room room-requires returns)
+    tie.close (tie.spec (λ c κs. search needs) (λ c κs. search needs) (λ c. search needs) (λ c κs. search needs) returns)

@@ -20,12 +20,6 @@ use borrow.Author.Needs.{needs}
 use Rattle.receipts.proofs.recv.Statement.{statement}
 use Rattle.receipts.proofs.recv.Tie as tie
 
-sub-load : tie.Need-sub-load
-sub-load c = search needs
-
-part-load-start : tie.Need-part-load-start
-part-load-start c = search needs
-
 part-load-end : tie.Need-part-load-end
 part-load-end c =
     let g = c .before .before in
@@ -33,24 +27,12 @@ part-load-end c =
     let bytes : AreBytes a = λ i. omega (arith, c .before .slice-known .given i) in
     let l : length a ≡ 65536 = long a bytes (g .pre) in search needs
 
-load-requires : tie.Need-load-requires
-load-requires c κs = search needs
-
-sub-load-limits : tie.Need-sub-load-limits
-sub-load-limits c = search needs
-
-part-load-limits-start : tie.Need-part-load-limits-start
-part-load-limits-start c = search needs
-
 part-load-limits-end : tie.Need-part-load-limits-end
 part-load-limits-end c =
     let g = c .before .before .before .before .before in
     let a : List ℕ = now (g .args .area) in
     let bytes : AreBytes a = λ i. omega (arith, c .before .before .before .before .slice-known .given i) in
     let l : length a ≡ 65536 = long a bytes (g .pre) in search needs
-
-load-limits-requires : tie.Need-load-limits-requires
-load-limits-requires c κs = search needs
 
 linked-requires : tie.Need-linked-requires
 linked-requires c κs =
@@ -61,12 +43,6 @@ linked-requires c κs =
     let f = c .load-limits .ensures in
     let e = c .before .before .before .load .ensures in
     omega (arith, few a bytes w, n-is a bytes w _ e)
-
-refused-requires : tie.Need-refused-requires
-refused-requires c κs = search needs
-
-same-length : tie.Need-same-length
-same-length c = search needs
 
 returns : tie.Need-returns
 returns c =
@@ -91,12 +67,6 @@ count-at-requires c κs =
     let il : g .args .station < 8 = station-small (configAt a) (stateAt a) (well-formed a bytes w) _ (p .0) in
     let jl : g .args .peer < 8 = neighbour-small (configAt a) (stateAt a) (well-formed a bytes w) _ _ (p .1) in
     (long a bytes w, jl, il)
-
-refused-requires-2 : tie.Need-refused-requires-2
-refused-requires-2 c κs = search needs
-
-same-length-2 : tie.Need-same-length-2
-same-length-2 c = search needs
 
 returns-2 : tie.Need-returns-2
 returns-2 c =
@@ -126,32 +96,11 @@ take-requires c κs =
     let jl : g .args .peer < 8 = neighbour-small (configAt a) (stateAt a) (well-formed a bytes w) _ _ (p .1) in
     (record { tested = w; station = p .0; neighbour = p .1; some = omega (arith, c .before .before .count-at .ensures, c .before .if2 .left) }, config-is a bytes w _ _ e f)
 
-same-length-3 : tie.Need-same-length-3
-same-length-3 c = search needs
-
-returns-3 : tie.Need-returns-3
-returns-3 c = search needs
-
 pub recv-spec : {M : Type 1} → statement M
 recv-spec =
     tie.close
     (tie.spec
-    sub-load
-    part-load-start
-    part-load-end
-    load-requires
-    sub-load-limits
-    part-load-limits-start
-    part-load-limits-end
-    load-limits-requires
-    linked-requires
-    refused-requires
-    same-length
-    returns
-    count-at-requires
-    refused-requires-2
-    same-length-2
-    returns-2
-    take-requires
-    same-length-3
-    returns-3)
+    (λ c. search needs) (λ c. search needs) part-load-end (λ c κs. search needs) (λ c. search needs)
+    (λ c. search needs) part-load-limits-end (λ c κs. search needs) linked-requires
+    (λ c κs. search needs) (λ c. search needs) returns count-at-requires (λ c κs. search needs)
+    (λ c. search needs) returns-2 take-requires (λ c. search needs) (λ c. search needs))

@@ -6,17 +6,8 @@ use borrow.Author.Needs.{needs}
 use Rattle.receipts.proofs.settle.Statement.{statement}
 use Rattle.receipts.proofs.settle.Tie as tie
 
-put-station-requires : tie.Need-put-station-requires
-put-station-requires c κs = search needs
-
 put-controls-requires : tie.Need-put-controls-requires
 put-controls-requires c κs = ((c .before .before .before .before .before .before .before .pre .1), room-set _ _ (c .before .before .before .before .before .before .before .pre .2) (c .before .before .before .put-station .ensures (c .before .before .before .before .before .before .before .pre .2 .config) (c .before .before .before .before .before .before .before .pre .2 .state) (c .before .before .before .before .before .before .before .pre .2 .is)))
-
-in-mode-requires : tie.Need-in-mode-requires
-in-mode-requires c κs = search needs
-
-same-length : tie.Need-same-length
-same-length c = search needs
 
 returns : tie.Need-returns
 returns c = record { answer = c .in-mode .ensures ∙ rw (mode-code) refl; area = λ d s l p. c .before .before .before .put-controls .ensures d _ l (c .before .before .before .before .before .before .before .put-station .ensures d s p) }
@@ -24,4 +15,4 @@ returns c = record { answer = c .in-mode .ensures ∙ rw (mode-code) refl; area 
 pub settle-spec : {M : Type 1} → statement M
 settle-spec =
     tie.close
-    (tie.spec put-station-requires put-controls-requires in-mode-requires same-length returns)
+    (tie.spec (λ c κs. search needs) put-controls-requires (λ c κs. search needs) (λ c. search needs) returns)

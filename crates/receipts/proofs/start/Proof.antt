@@ -20,30 +20,12 @@ use borrow.Author.Needs.{needs}
 use Rattle.receipts.proofs.start.Statement.{statement}
 use Rattle.receipts.proofs.start.Tie as tie
 
-sub-load : tie.Need-sub-load
-sub-load c = search needs
-
-part-load-start : tie.Need-part-load-start
-part-load-start c = search needs
-
 part-load-end : tie.Need-part-load-end
 part-load-end c =
     let g = c .before .before in
     let a : List ℕ = now (g .args .area) in
     let bytes : AreBytes a = λ i. omega (arith, c .before .slice-known .given i) in
     let l : length a ≡ 65536 = long a bytes (g .pre) in search needs
-
-load-requires : tie.Need-load-requires
-load-requires c κs = search needs
-
-wide-requires : tie.Need-wide-requires
-wide-requires c κs = search needs
-
-refused-requires : tie.Need-refused-requires
-refused-requires c κs = search needs
-
-same-length : tie.Need-same-length
-same-length c = search needs
 
 returns : tie.Need-returns
 returns c =
@@ -55,21 +37,12 @@ returns c =
     let e = c .before .before .before .load .ensures in
     refuses a bytes w (start (g .args .station)) 4 _ (start-no-station (configAt a) (stateAt a) v _ (no-station a bytes w _ e _ (omega (arith, c .before .before .wide .ensures, c .before .if1 .taken)))) (c .refused .ensures)
 
-sub-load-limits : tie.Need-sub-load-limits
-sub-load-limits c = search needs
-
-part-load-limits-start : tie.Need-part-load-limits-start
-part-load-limits-start c = search needs
-
 part-load-limits-end : tie.Need-part-load-limits-end
 part-load-limits-end c =
     let g = c .before .before .before .before .before .before .before in
     let a : List ℕ = now (g .args .area) in
     let bytes : AreBytes a = λ i. omega (arith, c .before .before .before .before .before .before .slice-known .given i) in
     let l : length a ≡ 65536 = long a bytes (g .pre) in search needs
-
-load-limits-requires : tie.Need-load-limits-requires
-load-limits-requires c κs = search needs
 
 load-station-requires : tie.Need-load-station-requires
 load-station-requires c κs =
@@ -82,15 +55,6 @@ load-station-requires c κs =
     let il : g .args .station < 8 = omega (arith, few a bytes w, n-is a bytes w _ e, c .before .before .before .before .before .wide .ensures, c .before .before .before .before .if1 .left) in
     let st = a-station a bytes w _ e (g .args .station) (omega (arith, c .before .before .before .before .before .wide .ensures, c .before .before .before .before .if1 .left)) in
     (long a bytes w, il)
-
-is-normal-requires : tie.Need-is-normal-requires
-is-normal-requires c κs = search needs
-
-refused-requires-2 : tie.Need-refused-requires-2
-refused-requires-2 c κs = search needs
-
-same-length-2 : tie.Need-same-length-2
-same-length-2 c = search needs
 
 returns-2 : tie.Need-returns-2
 returns-2 c =
@@ -106,12 +70,6 @@ returns-2 c =
     let z : stationAt (stateAt a) (g .args .station) ≡ stationView (c .before .before .before .load-station .result) = station-is a bytes w _ il (c .before .before .before .load-station .result) (c .before .before .before .load-station .ensures) in
     let m = ap (λ (x : Station vector). isNormal (x .mode)) z ∙ sym (c .before .before .is-normal .ensures) in
     refuses a bytes w (start (g .args .station)) 5 _ (start-forbidden (configAt a) (stateAt a) v _ st (m ∙ not-true _ (c .before .if2 .taken))) (c .refused2 .ensures)
-
-refused-requires-3 : tie.Need-refused-requires-3
-refused-requires-3 c κs = search needs
-
-same-length-3 : tie.Need-same-length-3
-same-length-3 c = search needs
 
 returns-3 : tie.Need-returns-3
 returns-3 c =
@@ -141,9 +99,6 @@ start-requires c κs =
     let st = a-station a bytes w _ e (g .args .station) (omega (arith, c .before .before .before .before .before .before .before .before .before .before .wide .ensures, c .before .before .before .before .before .before .before .before .before .if1 .left)) in
     (il, omega (arith, c .if3 .left))
 
-mul-row : tie.Need-mul-row
-mul-row c = search needs
-
 array-copy-out-row : tie.Need-array-copy-out-row
 array-copy-out-row c =
     let g = c .before .before .before .before .before .before .before .before .before .before .before .before .before .before .before .before in
@@ -167,12 +122,6 @@ in-bounds-requires c κs =
     let il : g .args .station < 8 = omega (arith, few a bytes w, n-is a bytes w _ e, c .before .before .before .before .before .before .before .before .before .before .before .before .before .wide .ensures, c .before .before .before .before .before .before .before .before .before .before .before .before .if1 .left) in
     let st = a-station a bytes w _ e (g .args .station) (omega (arith, c .before .before .before .before .before .before .before .before .before .before .before .before .before .wide .ensures, c .before .before .before .before .before .before .before .before .before .before .before .before .if1 .left)) in
     (long a bytes w, il)
-
-refused-requires-4 : tie.Need-refused-requires-4
-refused-requires-4 c κs = search needs
-
-same-length-4 : tie.Need-same-length-4
-same-length-4 c = search needs
 
 returns-4 : tie.Need-returns-4
 returns-4 c =
@@ -214,9 +163,6 @@ settle-requires c κs =
     let o = sym (c .before .before .in-bounds .ensures) ∙ not-false _ (c .before .if4 .left) in
     (long a bytes w, il, room-after a bytes w _ il (c .before .before .before .before .before .start .result) _ r o (stateAt a) (λ j. refl) _ _ (is-image a bytes w) f)
 
-same-length-5 : tie.Need-same-length-5
-same-length-5 c = search needs
-
 returns-5 : tie.Need-returns-5
 returns-5 c =
     let g = c .before .before .before .before .before .before .before .before .before .before .before .before .before .before .before .before .before .before .before .before .before .before .before .before in
@@ -241,33 +187,10 @@ pub start-spec : {M : Type 1} → statement M
 start-spec =
     tie.close
     (tie.spec
-    sub-load
-    part-load-start
-    part-load-end
-    load-requires
-    wide-requires
-    refused-requires
-    same-length
-    returns
-    sub-load-limits
-    part-load-limits-start
-    part-load-limits-end
-    load-limits-requires
-    load-station-requires
-    is-normal-requires
-    refused-requires-2
-    same-length-2
-    returns-2
-    refused-requires-3
-    same-length-3
-    returns-3
-    start-requires
-    mul-row
-    array-copy-out-row
-    in-bounds-requires
-    refused-requires-4
-    same-length-4
-    returns-4
-    settle-requires
-    same-length-5
-    returns-5)
+    (λ c. search needs) (λ c. search needs) part-load-end (λ c κs. search needs)
+    (λ c κs. search needs) (λ c κs. search needs) (λ c. search needs) returns (λ c. search needs)
+    (λ c. search needs) part-load-limits-end (λ c κs. search needs) load-station-requires
+    (λ c κs. search needs) (λ c κs. search needs) (λ c. search needs) returns-2
+    (λ c κs. search needs) (λ c. search needs) returns-3 start-requires (λ c. search needs)
+    array-copy-out-row in-bounds-requires (λ c κs. search needs) (λ c. search needs) returns-4
+    settle-requires (λ c. search needs) returns-5)

@@ -59,9 +59,6 @@ take-control-requires c κs =
     let z : stationAt (stateAt a) (g .args .i) ≡ stationView (c .before .before .before .before .load-station .result) = station-is a bytes (h .tested) _ il (c .before .before .before .before .load-station .result) (c .before .before .before .before .load-station .ensures) in
     (h, ap (λ (x : Config). x .limits) (g .pre .1), omega (arith, c .with-req .ensures .1, phase-most a bytes (h .tested) _ il, ap (λ (x : Station vector). x .phase) z))
 
-same-length : tie.Need-same-length
-same-length c = search needs
-
 returns : tie.Need-returns
 returns c =
     let g = c .before .before .before .before .before .before .before .before .before .before .before .before in
@@ -97,9 +94,6 @@ take-control-requires-2 c κs =
     let z : stationAt (stateAt a) (g .args .i) ≡ stationView (c .before .before .before .before .before .before .load-station .result) = station-is a bytes (h .tested) _ il (c .before .before .before .before .before .before .load-station .result) (c .before .before .before .before .before .before .load-station .ensures) in
     (h, ap (λ (x : Config). x .limits) (g .pre .1), omega (arith, c .with-done .ensures .1, phase-most a bytes (h .tested) _ il, ap (λ (x : Station vector). x .phase) z))
 
-same-length-2 : tie.Need-same-length-2
-same-length-2 c = search needs
-
 returns-2 : tie.Need-returns-2
 returns-2 c =
     let g = c .before .before .before .before .before .before .before .before .before .before .before .before .before .before in
@@ -125,9 +119,6 @@ take-message-requires c κs =
     let z : stationAt (stateAt a) (g .args .i) ≡ stationView (c .before .before .before .before .before .load-station .result) = station-is a bytes (h .tested) _ il (c .before .before .before .before .before .load-station .result) (c .before .before .before .before .before .load-station .ensures) in
     (h, ap (λ (x : Config). x .t) (g .pre .1), sym z)
 
-same-length-3 : tie.Need-same-length-3
-same-length-3 c = search needs
-
 returns-3 : tie.Need-returns-3
 returns-3 c =
     let g = c .before .before .before .before .before .before .before .before .before .before .before .before .before in
@@ -142,16 +133,6 @@ pub take-spec : {M : Type 1} → statement M
 take-spec =
     tie.close
     (tie.spec
-    first-at-requires
-    load-station-requires
-    with-req-requires
-    take-control-requires
-    same-length
-    returns
-    with-done-requires
-    take-control-requires-2
-    same-length-2
-    returns-2
-    take-message-requires
-    same-length-3
-    returns-3)
+    first-at-requires load-station-requires with-req-requires take-control-requires
+    (λ c. search needs) returns with-done-requires take-control-requires-2 (λ c. search needs)
+    returns-2 take-message-requires (λ c. search needs) returns-3)

@@ -57,12 +57,6 @@ in-bounds-requires c κs =
     let jl : g .args .j < 8 = j-small a bytes _ _ h in
     (long a bytes (h .tested), il)
 
-refused-requires : tie.Need-refused-requires
-refused-requires c κs = search needs
-
-same-length : tie.Need-same-length
-same-length c = search needs
-
 returns : tie.Need-returns
 returns c =
     let g = c .before .before .before .before .before .before .before in
@@ -95,9 +89,6 @@ settle-requires c κs =
     let e = c .before .before .before .take-at .ensures (configAt a) (stateAt a) _ q (is-image a bytes (h .tested)) (first-is a _ _ jl il (h .some) _ refl) in
     (ap length e ∙ image-length _ _, il, room-after a bytes (h .tested) _ il (c .before .before .before .before .before .before .before .before .before .turn .result) _ (ap (λ (m : List (List ℕ)). getD m (g .args .i) []) (sym (g .pre .1))) (sym (c .before .before .before .before .before .before .in-bounds .ensures) ∙ not-false _ (c .before .before .before .before .before .if1 .left)) (setLink (stateAt a) (g .args .j) (g .args .i) q) (out-same a bytes _ _ h q) _ _ e (sym (g .pre .1)))
 
-same-length-2 : tie.Need-same-length-2
-same-length-2 c = search needs
-
 returns-2 : tie.Need-returns-2
 returns-2 c =
     let g = c .before .before .before .before .before .before .before .before .before .before .before .before .before .before in
@@ -112,14 +103,5 @@ pub take-control-spec : {M : Type 1} → statement M
 take-control-spec =
     tie.close
     (tie.spec
-    turn-requires
-    mul-row
-    array-copy-out-row
-    in-bounds-requires
-    refused-requires
-    same-length
-    returns
-    take-at-requires
-    settle-requires
-    same-length-2
-    returns-2)
+    turn-requires mul-row array-copy-out-row in-bounds-requires (λ c κs. search needs)
+    (λ c. search needs) returns take-at-requires settle-requires (λ c. search needs) returns-2)

@@ -37,9 +37,6 @@ array-read-if1 c =
     let jl : g .args .j < 8 = j-small a bytes _ _ h in
     il
 
-refused-requires : tie.Need-refused-requires
-refused-requires c κs = search needs
-
 returns : tie.Need-returns
 returns c =
     let g = c .before .before .before .before in
@@ -100,12 +97,6 @@ cast-entry-2 c =
     let jl : g .args .j < 8 = j-small a bytes _ _ h in
     omega (arith, jl)
 
-entry-requires : tie.Need-entry-requires
-entry-requires c κs = search needs
-
-same-length : tie.Need-same-length
-same-length c = search needs
-
 returns-2 : tie.Need-returns-2
 returns-2 c =
     let g = c .before .before .before .before .before .before .before .before .before .before .before .before .before .before in
@@ -120,15 +111,6 @@ pub take-message-spec : {M : Type 1} → statement M
 take-message-spec =
     tie.close
     (tie.spec
-    mul-if1
-    array-read-if1
-    refused-requires
-    returns
-    receiving-requires
-    take-at-requires
-    put-station-requires
-    cast-entry
-    cast-entry-2
-    entry-requires
-    same-length
+    mul-if1 array-read-if1 (λ c κs. search needs) returns receiving-requires take-at-requires
+    put-station-requires cast-entry cast-entry-2 (λ c κs. search needs) (λ c. search needs)
     returns-2)

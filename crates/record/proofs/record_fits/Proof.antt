@@ -8,22 +8,10 @@ returns : tie.Need-returns
 unfolding recordFits
 returns c = rw (le-ltb _ 8 (c .if1 .taken))
 
-cast-i : tie.Need-cast-i
-cast-i c = search needs
-
-peer-fits-requires : tie.Need-peer-fits-requires
-peer-fits-requires c κs = search needs
-
-mul-result : tie.Need-mul-result
-mul-result c = search needs
-
-array-read-result : tie.Need-array-read-result
-array-read-result c = search needs
-
 returns-2 : tie.Need-returns-2
 unfolding recordFits
 returns-2 c = rw (lt-ltb _ 8 (c .before .before .before .if1 .left)) (cc)
 
 pub record-fits-spec : {M : Type 1} → statement M
 record-fits-spec =
-    tie.close (tie.spec returns cast-i peer-fits-requires mul-result array-read-result returns-2)
+    tie.close (tie.spec returns (λ c. search needs) (λ c κs. search needs) (λ c. search needs) (λ c. search needs) returns-2)

@@ -14,21 +14,9 @@ returns : tie.Need-returns
 unfolding wellMadeRecord
 returns c = rw (ne-eqb _ 32 (c .if1 .taken))
 
-spare-requires : tie.Need-spare-requires
-spare-requires c κs = search needs
-
 returns-2 : tie.Need-returns-2
 returns-2 c =
     rw (spare-first (now (c .before .before .before .before .args .s)) (c .before .before .if1 .left), sym (c .before .spare .ensures) ∙ ne-eqb _ 0 (c .if2 .taken))
-
-shared-slice-read-station : tie.Need-shared-slice-read-station
-shared-slice-read-station c = search needs
-
-shared-slice-read-peer-fits : tie.Need-shared-slice-read-peer-fits
-shared-slice-read-peer-fits c = search needs
-
-shared-slice-read-peer-fits-2 : tie.Need-shared-slice-read-peer-fits-2
-shared-slice-read-peer-fits-2 c = search needs
 
 peer-fits-requires : tie.Need-peer-fits-requires
 peer-fits-requires c κs =
@@ -50,9 +38,6 @@ cast-i c =
     let l = now (f .before .before .before .before .args .s) in
     let q = spare-none l _ (f .before .spare .ensures) (f .if2 .left) in
     omega arith
-
-get32-requires : tie.Need-get32-requires
-get32-requires c κs = search needs
 
 mul-get16 : tie.Need-mul-get16
 mul-get16 c =
@@ -86,17 +71,6 @@ pub well-made-spec : {M : Type 1} → statement M
 well-made-spec =
     tie.close
     (tie.spec
-    returns
-    spare-requires
-    returns-2
-    shared-slice-read-station
-    shared-slice-read-peer-fits
-    shared-slice-read-peer-fits-2
-    peer-fits-requires
-    returns-3
-    cast-i
-    get32-requires
-    mul-get16
-    add-get16
-    get16-requires
-    returns-4)
+    returns (λ c κs. search needs) returns-2 (λ c. search needs) (λ c. search needs)
+    (λ c. search needs) peer-fits-requires returns-3 cast-i (λ c κs. search needs) mul-get16
+    add-get16 get16-requires returns-4)

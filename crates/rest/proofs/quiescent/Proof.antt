@@ -37,12 +37,6 @@ returns c =
     let q = settled-is a i (c .before .before .before .before .load-station2 .result) (c .before .before .before .before .before .before .before .load-station .result) (c .before .before .before .is-normal .result) (omega arith) (c .before .before .before .before .load-station2 .ensures) (c .before .before .before .before .before .before .before .load-station .ensures) (c .before .before .before .is-normal .ensures) in
     sym (settles (g .n) (stateAt a) ∙ every-fails (g .n) (settled (stateAt a)) i (omega arith) (q ∙ not-true _ (c .if1 .taken)))
 
-add-i : tie.Need-add-i Inv-loop μ-loop
-add-i c = omega arith
-
-loop-less : tie.Need-loop-less Inv-loop μ-loop
-loop-less c = omega arith
-
 loop-again : tie.Need-loop-again Inv-loop μ-loop
 loop-again c =
     let g = c .before .before .before .before .before .before .before .before .before .args in
@@ -63,12 +57,5 @@ quiescent-spec =
     (tie.spec
     Inv-loop
     μ-loop
-    load-station-requires
-    loop-holds
-    load-station-requires-2
-    is-normal-requires
-    returns
-    add-i
-    loop-less
-    loop-again
-    returns-2)
+    load-station-requires loop-holds load-station-requires-2 is-normal-requires returns
+    (λ c. omega arith) (λ c. omega arith) loop-again returns-2)

@@ -11,24 +11,12 @@ use borrow.Author.Needs.{needs}
 use Rattle.rest.proofs.rest.Statement.{statement}
 use Rattle.rest.proofs.rest.Tie as tie
 
-well-formed-requires : tie.Need-well-formed-requires
-well-formed-requires c κs = search needs
-
 returns : tie.Need-returns
 unfolding restOn
 returns c = rw (sym (c .before .well-formed .ensures) ∙ not-true _ (c .if1 .taken))
 
-sub-load : tie.Need-sub-load
-sub-load c = search needs
-
-part-load-start : tie.Need-part-load-start
-part-load-start c = search needs
-
 part-load-end : tie.Need-part-load-end
 part-load-end c = omega (arith, tested _ (sym (c .before .well-formed .ensures) ∙ not-false _ (c .if1 .left)) .long)
-
-load-requires : tie.Need-load-requires
-load-requires c κs = search needs
 
 quiescent-requires : tie.Need-quiescent-requires
 quiescent-requires c κs =
@@ -54,12 +42,5 @@ pub rest-spec : {M : Type 1} → statement M
 rest-spec =
     tie.close
     (tie.spec
-    well-formed-requires
-    returns
-    sub-load
-    part-load-start
-    part-load-end
-    load-requires
-    quiescent-requires
-    returns-2
-    returns-3)
+    (λ c κs. search needs) returns (λ c. search needs) (λ c. search needs) part-load-end
+    (λ c κs. search needs) quiescent-requires returns-2 returns-3)

@@ -19,20 +19,11 @@ abbrev μ-loop : tie.MeasureT-loop
 loop-holds : tie.Need-loop-holds Inv-loop μ-loop
 loop-holds c = (omega arith, every-none _)
 
-row-both-ways-requires : tie.Need-row-both-ways-requires Inv-loop μ-loop
-row-both-ways-requires c κs = search needs
-
 returns : tie.Need-returns Inv-loop μ-loop
 unfolding linkedBothWays
 returns c =
     let l = c .before .before .before .loop in
     sym (every-fails 8 (λ (k : ℕ). every 8 (bothOrNone (c .before .before .before .before .args .limits) k)) (l .i) (omega arith) (sym (c .before .row-both-ways .ensures) ∙ not-true _ (c .if1 .taken)))
-
-add-i : tie.Need-add-i Inv-loop μ-loop
-add-i c = search needs
-
-loop-less : tie.Need-loop-less Inv-loop μ-loop
-loop-less c = search needs
 
 loop-again : tie.Need-loop-again Inv-loop μ-loop
 loop-again c =
@@ -51,10 +42,5 @@ linked-both-ways-spec =
     (tie.spec
     Inv-loop
     μ-loop
-    loop-holds
-    row-both-ways-requires
-    returns
-    add-i
-    loop-less
-    loop-again
+    loop-holds (λ c κs. search needs) returns (λ c. search needs) (λ c. search needs) loop-again
     returns-2)

@@ -16,9 +16,6 @@ Inv-loop n limits i₀ i = (i ≤ 8) × (every i (λ (k : ℕ). every 8 (limitBe
 abbrev μ-loop : tie.MeasureT-loop
 μ-loop n limits i₀ i = 8 - i
 
-allowances-below-requires : tie.Need-allowances-below-requires Inv-loop μ-loop
-allowances-below-requires c κs = search needs
-
 returns : tie.Need-returns Inv-loop μ-loop
 unfolding nothingAbove
 returns c =
@@ -29,9 +26,6 @@ returns c =
 loop-holds : tie.Need-loop-holds Inv-loop μ-loop
 loop-holds c = (omega arith, every-none _)
 
-row-below-requires : tie.Need-row-below-requires Inv-loop μ-loop
-row-below-requires c κs = search needs
-
 returns-2 : tie.Need-returns-2 Inv-loop μ-loop
 unfolding nothingAbove
 returns-2 c =
@@ -41,12 +35,6 @@ returns-2 c =
     let e : every 8 (allowanceBelow (a .n) (a .allowances)) ≡ true = sym (b .before .allowances-below .ensures) ∙ not-false _ (b .if1 .left) in
     let f = every-fails 8 (λ (k : ℕ). every 8 (limitBelow (a .n) (a .limits) k)) (l .i) (omega arith) (sym (c .before .row-below .ensures) ∙ not-true _ (c .if2 .taken)) in
     rw (e, f)
-
-add-i : tie.Need-add-i Inv-loop μ-loop
-add-i c = search needs
-
-loop-less : tie.Need-loop-less Inv-loop μ-loop
-loop-less c = search needs
 
 loop-again : tie.Need-loop-again Inv-loop μ-loop
 loop-again c =
@@ -68,12 +56,5 @@ nothing-above-spec =
     (tie.spec
     Inv-loop
     μ-loop
-    allowances-below-requires
-    returns
-    loop-holds
-    row-below-requires
-    returns-2
-    add-i
-    loop-less
-    loop-again
-    returns-3)
+    (λ c κs. search needs) returns loop-holds (λ c κs. search needs) returns-2 (λ c. search needs)
+    (λ c. search needs) loop-again returns-3)

@@ -17,26 +17,8 @@ Inv-loop t limits allowances ceiling i₀ i = (i ≤ 8) × (every i (withinAt t 
 abbrev μ-loop : tie.MeasureT-loop
 μ-loop t limits allowances ceiling i₀ i = 8 - i
 
-wide16-requires : tie.Need-wide16-requires Inv-loop μ-loop
-wide16-requires c κs = search needs
-
 loop-holds : tie.Need-loop-holds Inv-loop μ-loop
 loop-holds c = (omega arith, every-none _)
-
-mul-own : tie.Need-mul-own Inv-loop μ-loop
-mul-own c = search needs
-
-array-read-own : tie.Need-array-read-own Inv-loop μ-loop
-array-read-own c = search needs
-
-wide16-requires-2 : tie.Need-wide16-requires-2 Inv-loop μ-loop
-wide16-requires-2 c κs = search needs
-
-around-requires : tie.Need-around-requires Inv-loop μ-loop
-around-requires c κs = search needs
-
-add-if1 : tie.Need-add-if1 Inv-loop μ-loop
-add-if1 c = search needs
 
 returns : tie.Need-returns Inv-loop μ-loop
 unfolding withinCeiling
@@ -45,12 +27,6 @@ returns c =
     let a = c .before .before .before .before .before .before .args in
     let f : a .t < getD (a .t2) (l .i) 0 + sum 8 (between (a .limits) (l .i)) = omega arith in
     sym (every-fails 8 (withinAt (a .t) (a .t2) (a .limits)) (l .i) (omega arith) (lt-leb _ _ f))
-
-add-i : tie.Need-add-i Inv-loop μ-loop
-add-i c = search needs
-
-loop-less : tie.Need-loop-less Inv-loop μ-loop
-loop-less c = search needs
 
 loop-again : tie.Need-loop-again Inv-loop μ-loop
 loop-again c =
@@ -71,15 +47,6 @@ within-ceiling-spec =
     (tie.spec
     Inv-loop
     μ-loop
-    wide16-requires
-    loop-holds
-    mul-own
-    array-read-own
-    wide16-requires-2
-    around-requires
-    add-if1
-    returns
-    add-i
-    loop-less
-    loop-again
-    returns-2)
+    (λ c κs. search needs) loop-holds (λ c. search needs) (λ c. search needs) (λ c κs. search needs)
+    (λ c κs. search needs) (λ c. search needs) returns (λ c. search needs) (λ c. search needs)
+    loop-again returns-2)

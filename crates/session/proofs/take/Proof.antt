@@ -13,12 +13,6 @@ use Rattle.session.proofs.Laws.{part-line, stands, line-taken}
 use Rattle.session.proofs.take.Statement.{statement}
 use Rattle.session.proofs.take.Tie as tie
 
-fill-requires : tie.Need-fill-requires
-fill-requires c κs = search needs
-
-same-length : tie.Need-same-length
-same-length c = search needs
-
 returns : tie.Need-returns
 returns c =
     let g = c .before .before .before .before .before .before .before .before .before .before .args in
@@ -33,24 +27,6 @@ returns c =
       },
       (record { short = omega arith; on = λ h. omega (arith, f .on h) }, c .before .before .before .before .before .before .before .before .before .before .pre .5),
     )
-
-said-requires : tie.Need-said-requires
-said-requires c κs = search needs
-
-obey-requires : tie.Need-obey-requires
-obey-requires c κs = search needs
-
-same-length-2 : tie.Need-same-length-2
-same-length-2 c = search needs
-
-same-length-3 : tie.Need-same-length-3
-same-length-3 c = search needs
-
-same-length-4 : tie.Need-same-length-4
-same-length-4 c = search needs
-
-same-length-5 : tie.Need-same-length-5
-same-length-5 c = search needs
 
 returns-2 : tie.Need-returns-2
 returns-2 c =
@@ -75,13 +51,5 @@ pub take-spec : {M : Type 1} → statement M
 take-spec =
     tie.close
     (tie.spec
-    fill-requires
-    same-length
-    returns
-    said-requires
-    obey-requires
-    same-length-2
-    same-length-3
-    same-length-4
-    same-length-5
-    returns-2)
+    (λ c κs. search needs) (λ c. search needs) returns (λ c κs. search needs) (λ c κs. search needs)
+    (λ c. search needs) (λ c. search needs) (λ c. search needs) (λ c. search needs) returns-2)

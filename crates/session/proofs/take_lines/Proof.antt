@@ -24,9 +24,6 @@ loop-holds c =
     let p = c .before .before .before .before .before .pre in
     (p .1, p .4, refl, refl, omega arith, λ e. refl, p .3, p .5, takes-none (g .run) _ (g .have) _ (g .at) _ _ _ (g .end) (p .0) (p .2))
 
-sub-if2 : tie.Need-sub-if2 Inv-loop μ-loop
-sub-if2 c = search needs
-
 take-requires : tie.Need-take-requires Inv-loop μ-loop
 take-requires c κs =
     let p = c .before .before .before .before .before .before .before .before .before .before .before .before .before .before .before .pre in
@@ -49,34 +46,10 @@ loop-again c =
     let m = f .1 .0 .short in
     (omega (arith, i .0), omega (arith, i .1), omega (arith, i .2), omega (arith, i .3), omega (arith, i .4), λ e. absurd (omega (arith, i .4)), omega (arith, i .3, i .6), f .1 .1, takes-more (i .8) (f .0) (i .6))
 
-same-length : tie.Need-same-length Inv-loop μ-loop
-same-length c = search needs
-
-same-length-2 : tie.Need-same-length-2 Inv-loop μ-loop
-same-length-2 c = search needs
-
-same-length-3 : tie.Need-same-length-3 Inv-loop μ-loop
-same-length-3 c = search needs
-
-same-length-4 : tie.Need-same-length-4 Inv-loop μ-loop
-same-length-4 c = search needs
-
 returns : tie.Need-returns Inv-loop μ-loop
 returns c =
     let i = c .before .before .loop .inv in
     (i .8, (record { room = i .6; on = λ h r. omega arith; left = λ h. absurd (omega arith) }, i .7))
-
-same-length-5 : tie.Need-same-length-5 Inv-loop μ-loop
-same-length-5 c = search needs
-
-same-length-6 : tie.Need-same-length-6 Inv-loop μ-loop
-same-length-6 c = search needs
-
-same-length-7 : tie.Need-same-length-7 Inv-loop μ-loop
-same-length-7 c = search needs
-
-same-length-8 : tie.Need-same-length-8 Inv-loop μ-loop
-same-length-8 c = search needs
 
 returns-2 : tie.Need-returns-2 Inv-loop μ-loop
 returns-2 c =
@@ -91,18 +64,6 @@ take-lines-spec =
     (tie.spec
     Inv-loop
     μ-loop
-    loop-holds
-    sub-if2
-    take-requires
-    loop-less
-    loop-again
-    same-length
-    same-length-2
-    same-length-3
-    same-length-4
-    returns
-    same-length-5
-    same-length-6
-    same-length-7
-    same-length-8
-    returns-2)
+    loop-holds (λ c. search needs) take-requires loop-less loop-again (λ c. search needs)
+    (λ c. search needs) (λ c. search needs) (λ c. search needs) returns (λ c. search needs)
+    (λ c. search needs) (λ c. search needs) (λ c. search needs) returns-2)

@@ -9,21 +9,6 @@ use Rattle.settings.specs.Settings.{limitSet}
 use Rattle.settings.proofs.limit.Statement.{statement}
 use Rattle.settings.proofs.limit.Tie as tie
 
-mul-block : tie.Need-mul-block
-mul-block c = search needs
-
-add-block : tie.Need-add-block
-add-block c = search needs
-
-add-block-2 : tie.Need-add-block-2
-add-block-2 c = search needs
-
-slice-write-block : tie.Need-slice-write-block
-slice-write-block c = search needs
-
-same-length : tie.Need-same-length
-same-length c = search needs
-
 returns : tie.Need-returns
 unfolding limitSet
 returns c =
@@ -42,11 +27,5 @@ pub limit-spec : {M : Type 1} → statement M
 limit-spec =
     tie.close
     (tie.spec
-    mul-block
-    add-block
-    add-block-2
-    slice-write-block
-    same-length
-    returns
-    returns-2
-    returns-3)
+    (λ c. search needs) (λ c. search needs) (λ c. search needs) (λ c. search needs)
+    (λ c. search needs) returns returns-2 returns-3)

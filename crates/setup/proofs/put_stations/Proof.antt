@@ -22,35 +22,8 @@ loop-holds c =
     let a = c .before .args in
     (omega arith, refl, sym (ap (splice (now (a .area)) 512) (fresh-none (a .limits)) ∙ splice-none (now (a .area)) 512))
 
-mul-o : tie.Need-mul-o Inv-loop μ-loop
-mul-o c = omega arith
-
-add-o : tie.Need-add-o Inv-loop μ-loop
-add-o c = omega arith
-
-add-e : tie.Need-add-e Inv-loop μ-loop
-add-e c = omega arith
-
-initial-station-requires : tie.Need-initial-station-requires Inv-loop μ-loop
-initial-station-requires c κs = omega arith
-
-sub-store : tie.Need-sub-store Inv-loop μ-loop
-sub-store c = omega arith
-
-part-store-start : tie.Need-part-store-start Inv-loop μ-loop
-part-store-start c = omega arith
-
-part-store-end : tie.Need-part-store-end Inv-loop μ-loop
-part-store-end c = omega arith
-
 store-requires : tie.Need-store-requires Inv-loop μ-loop
 store-requires c κs = simp (length-take, length-drop) (omega arith)
-
-add-i : tie.Need-add-i Inv-loop μ-loop
-add-i c = omega arith
-
-loop-less : tie.Need-loop-less Inv-loop μ-loop
-loop-less c = omega arith
 
 loop-again : tie.Need-loop-again Inv-loop μ-loop
 loop-again c =
@@ -62,9 +35,6 @@ loop-again c =
     let s = fresh-length (a .limits) (l .i + 1) in
     (omega arith, ap length t ∙ splice-length (now (a .area)) 512 (initialBytes (a .limits) (l .i + 1)) (omega arith), t)
 
-same-length : tie.Need-same-length Inv-loop μ-loop
-same-length c = omega arith
-
 returns : tie.Need-returns Inv-loop μ-loop
 returns c = let e : c .before .loop .i ≡ 8 = omega arith in rw e at (c .before .loop .inv .2)
 
@@ -74,17 +44,6 @@ put-stations-spec =
     (tie.spec
     Inv-loop
     μ-loop
-    loop-holds
-    mul-o
-    add-o
-    add-e
-    initial-station-requires
-    sub-store
-    part-store-start
-    part-store-end
-    store-requires
-    add-i
-    loop-less
-    loop-again
-    same-length
-    returns)
+    loop-holds (λ c. omega arith) (λ c. omega arith) (λ c. omega arith) (λ c κs. omega arith)
+    (λ c. omega arith) (λ c. omega arith) (λ c. omega arith) store-requires (λ c. omega arith)
+    (λ c. omega arith) loop-again (λ c. omega arith) returns)

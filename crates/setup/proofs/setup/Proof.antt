@@ -22,9 +22,6 @@ returns : tie.Need-returns
 unfolding setupOn
 returns c = rw (ne-eqb _ 65536 (c .if1 .taken)) (refl, refl)
 
-well-made-requires : tie.Need-well-made-requires
-well-made-requires c κs = search needs
-
 returns-2 : tie.Need-returns-2
 unfolding setupOn
 returns-2 c = rw (eq-eqb _ 65536 (c .before .before .if1 .left), sym (c .before .well-made .ensures) ∙ not-true _ (c .if2 .taken)) (refl, refl)
@@ -34,9 +31,6 @@ load-limits-requires c κs = well-made-length _ (sym (c .before .well-made .ensu
 
 load-requires : tie.Need-load-requires
 load-requires c κs = well-made-length _ (sym (c .before .before .well-made .ensures) ∙ not-false _ (c .before .if2 .left))
-
-setup-fits-requires : tie.Need-setup-fits-requires
-setup-fits-requires c κs = search needs
 
 returns-3 : tie.Need-returns-3
 unfolding setupOn
@@ -49,15 +43,6 @@ put-bytes-requires : tie.Need-put-bytes-requires
 put-bytes-requires c κs =
     let n : length (now (c .before .before .before .before .before .before .before .before .before .before .args .block)) ≡ 512 = well-made-length _ (sym (c .before .before .before .before .before .before .well-made .ensures) ∙ not-false _ (c .before .before .before .before .before .if2 .left)) in
     omega arith
-
-put-stations-requires : tie.Need-put-stations-requires
-put-stations-requires c κs = search needs
-
-put-zeros-requires : tie.Need-put-zeros-requires
-put-zeros-requires c κs = search needs
-
-same-length : tie.Need-same-length
-same-length c = search needs
 
 returns-4 : tie.Need-returns-4
 unfolding setupOn
@@ -81,15 +66,6 @@ pub setup-spec : {M : Type 1} → statement M
 setup-spec =
     tie.close
     (tie.spec
-    returns
-    well-made-requires
-    returns-2
-    load-limits-requires
-    load-requires
-    setup-fits-requires
-    returns-3
-    put-bytes-requires
-    put-stations-requires
-    put-zeros-requires
-    same-length
-    returns-4)
+    returns (λ c κs. search needs) returns-2 load-limits-requires load-requires
+    (λ c κs. search needs) returns-3 put-bytes-requires (λ c κs. search needs)
+    (λ c κs. search needs) (λ c. search needs) returns-4)

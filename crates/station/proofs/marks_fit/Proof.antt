@@ -18,33 +18,6 @@ abbrev μ-loop : tie.MeasureT-loop
 loop-holds : tie.Need-loop-holds Inv-loop μ-loop
 loop-holds c = (omega arith, sym (every-none _))
 
-add-mark-bound : tie.Need-add-mark-bound Inv-loop μ-loop
-add-mark-bound c = search needs
-
-shared-slice-read-mark-bound : tie.Need-shared-slice-read-mark-bound Inv-loop μ-loop
-shared-slice-read-mark-bound c = search needs
-
-mark-bound-requires : tie.Need-mark-bound-requires Inv-loop μ-loop
-mark-bound-requires c κs = search needs
-
-add-ok : tie.Need-add-ok Inv-loop μ-loop
-add-ok c = search needs
-
-shared-slice-read-ok : tie.Need-shared-slice-read-ok Inv-loop μ-loop
-shared-slice-read-ok c = search needs
-
-add-ok-2 : tie.Need-add-ok-2 Inv-loop μ-loop
-add-ok-2 c = search needs
-
-shared-slice-read-ok-2 : tie.Need-shared-slice-read-ok-2 Inv-loop μ-loop
-shared-slice-read-ok-2 c = search needs
-
-add-j : tie.Need-add-j Inv-loop μ-loop
-add-j c = search needs
-
-loop-less : tie.Need-loop-less Inv-loop μ-loop
-loop-less c = search needs
-
 loop-again : tie.Need-loop-again Inv-loop μ-loop
 loop-again c = (omega arith, rw (every-turn, c .before .before .before .before .before .loop .inv .1, c .before .before .mark-bound .ensures))
 
@@ -57,15 +30,6 @@ marks-fit-spec =
     (tie.spec
     Inv-loop
     μ-loop
-    loop-holds
-    add-mark-bound
-    shared-slice-read-mark-bound
-    mark-bound-requires
-    add-ok
-    shared-slice-read-ok
-    add-ok-2
-    shared-slice-read-ok-2
-    add-j
-    loop-less
-    loop-again
-    returns)
+    loop-holds (λ c. search needs) (λ c. search needs) (λ c κs. search needs) (λ c. search needs)
+    (λ c. search needs) (λ c. search needs) (λ c. search needs) (λ c. search needs)
+    (λ c. search needs) loop-again returns)

@@ -23,24 +23,6 @@ abbrev μ-loop : tie.MeasureT-loop
 loop-holds : tie.Need-loop-holds Inv-loop μ-loop
 loop-holds c = (omega arith, refl, sym (ap (λ (v : List ℕ). splice (now (c .before .args .part)) (c .before .args .at) v) (upto-none _) ∙ splice-none (now (c .before .args .part)) (c .before .args .at)))
 
-array-read-mark-byte : tie.Need-array-read-mark-byte Inv-loop μ-loop
-array-read-mark-byte c = search needs
-
-mark-byte-requires : tie.Need-mark-byte-requires Inv-loop μ-loop
-mark-byte-requires c κs = search needs
-
-add-part : tie.Need-add-part Inv-loop μ-loop
-add-part c = search needs
-
-slice-write-part : tie.Need-slice-write-part Inv-loop μ-loop
-slice-write-part c = search needs
-
-add-j : tie.Need-add-j Inv-loop μ-loop
-add-j c = search needs
-
-loop-less : tie.Need-loop-less Inv-loop μ-loop
-loop-less c = search needs
-
 loop-again : tie.Need-loop-again Inv-loop μ-loop
 loop-again c =
     let l = c .before .before .loop in
@@ -49,9 +31,6 @@ loop-again c =
       simp length-set (omega arith),
       rw (c .mark-byte .ensures) (made-turn (now (a .part)) (l .part) (λ (k : ℕ). markByte (getD (a .t3) k false)) (a .at) (l .j) (omega arith) (l .inv .2)),
     )
-
-same-length : tie.Need-same-length Inv-loop μ-loop
-same-length c = search needs
 
 returns : tie.Need-returns Inv-loop μ-loop
 unfolding marksOf
@@ -63,13 +42,5 @@ put-marks-spec =
     (tie.spec
     Inv-loop
     μ-loop
-    loop-holds
-    array-read-mark-byte
-    mark-byte-requires
-    add-part
-    slice-write-part
-    add-j
-    loop-less
-    loop-again
-    same-length
-    returns)
+    loop-holds (λ c. search needs) (λ c κs. search needs) (λ c. search needs) (λ c. search needs)
+    (λ c. search needs) (λ c. search needs) loop-again (λ c. search needs) returns)

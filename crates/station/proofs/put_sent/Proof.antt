@@ -22,29 +22,11 @@ abbrev μ-loop : tie.MeasureT-loop
 loop-holds : tie.Need-loop-holds Inv-loop μ-loop
 loop-holds c = (omega arith, refl, sym (ap (λ (v : List ℕ). splice (now (c .args .part)) 16 v) (upto-none _) ∙ splice-none (now (c .args .part)) 16))
 
-array-read-part : tie.Need-array-read-part Inv-loop μ-loop
-array-read-part c = search needs
-
-add-part : tie.Need-add-part Inv-loop μ-loop
-add-part c = search needs
-
-slice-write-part : tie.Need-slice-write-part Inv-loop μ-loop
-slice-write-part c = search needs
-
-add-j : tie.Need-add-j Inv-loop μ-loop
-add-j c = search needs
-
-loop-less : tie.Need-loop-less Inv-loop μ-loop
-loop-less c = search needs
-
 loop-again : tie.Need-loop-again Inv-loop μ-loop
 loop-again c =
     let l = c .before .loop in
     let a = c .before .before .args in
     (omega arith, simp length-set (omega arith), made-turn (now (a .part)) (l .part) (λ (k : ℕ). getD (a .t2) k 0) 16 (l .j) (omega arith) (l .inv .2))
-
-same-length : tie.Need-same-length Inv-loop μ-loop
-same-length c = search needs
 
 returns : tie.Need-returns Inv-loop μ-loop
 unfolding sentOf
@@ -56,12 +38,5 @@ put-sent-spec =
     (tie.spec
     Inv-loop
     μ-loop
-    loop-holds
-    array-read-part
-    add-part
-    slice-write-part
-    add-j
-    loop-less
-    loop-again
-    same-length
-    returns)
+    loop-holds (λ c. search needs) (λ c. search needs) (λ c. search needs) (λ c. search needs)
+    (λ c. search needs) loop-again (λ c. search needs) returns)

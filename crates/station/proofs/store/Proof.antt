@@ -12,30 +12,6 @@ use borrow.Author.Needs.{needs}
 use Rattle.station.proofs.store.Statement.{statement}
 use Rattle.station.proofs.store.Tie as tie
 
-mode-byte-requires : tie.Need-mode-byte-requires
-mode-byte-requires c κs = search needs
-
-put-row-requires : tie.Need-put-row-requires
-put-row-requires c κs = search needs
-
-put-sent-requires : tie.Need-put-sent-requires
-put-sent-requires c κs = search needs
-
-put-marks-requires : tie.Need-put-marks-requires
-put-marks-requires c κs = search needs
-
-put-marks-requires-2 : tie.Need-put-marks-requires-2
-put-marks-requires-2 c κs = search needs
-
-put32-requires : tie.Need-put32-requires
-put32-requires c κs = search needs
-
-put16-requires : tie.Need-put16-requires
-put16-requires c κs = search needs
-
-slice-write-part : tie.Need-slice-write-part
-slice-write-part c = search needs
-
 returns : tie.Need-returns
 unfolding imageStation
 returns c =
@@ -68,13 +44,6 @@ pub store-spec : {M : Type 1} → statement M
 store-spec =
     tie.close
     (tie.spec
-    mode-byte-requires
-    put-row-requires
-    put-sent-requires
-    put-marks-requires
-    put-marks-requires-2
-    put32-requires
-    put16-requires
-    slice-write-part
-    same-length
-    returns)
+    (λ c κs. search needs) (λ c κs. search needs) (λ c κs. search needs) (λ c κs. search needs)
+    (λ c κs. search needs) (λ c κs. search needs) (λ c κs. search needs) (λ c. search needs)
+    same-length returns)

@@ -5,9 +5,6 @@ use borrow.Author.Needs.{needs}
 use Rattle.stepped.proofs.linked.Statement.{statement}
 use Rattle.stepped.proofs.linked.Tie as tie
 
-wide-requires : tie.Need-wide-requires
-wide-requires c κs = search needs
-
 returns : tie.Need-returns
 unfolding isLinked
 returns c = rw (le-ltb (c .before .before .args .station) (c .before .before .args .h .n) (omega (arith, c .before .wide .ensures)))
@@ -15,15 +12,6 @@ returns c = rw (le-ltb (c .before .before .args .station) (c .before .before .ar
 returns-2 : tie.Need-returns-2
 unfolding isLinked
 returns-2 c = rw (lt-ltb (c .before .before .before .args .station) (c .before .before .before .args .h .n) (omega (arith, c .before .before .wide .ensures)), le-ltb _ 8 (c .if2 .taken))
-
-mul-row : tie.Need-mul-row
-mul-row c = search needs
-
-array-copy-out-row : tie.Need-array-copy-out-row
-array-copy-out-row c = search needs
-
-array-read-result : tie.Need-array-read-result
-array-read-result c = search needs
 
 returns-3 : tie.Need-returns-3
 unfolding isLinked
@@ -33,10 +21,5 @@ pub linked-spec : {M : Type 1} → statement M
 linked-spec =
     tie.close
     (tie.spec
-    wide-requires
-    returns
-    returns-2
-    mul-row
-    array-copy-out-row
-    array-read-result
-    returns-3)
+    (λ c κs. search needs) returns returns-2 (λ c. search needs) (λ c. search needs)
+    (λ c. search needs) returns-3)

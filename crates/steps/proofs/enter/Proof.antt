@@ -24,26 +24,8 @@ use borrow.Author.Needs.{needs}
 use Rattle.steps.proofs.enter.Statement.{statement}
 use Rattle.steps.proofs.enter.Tie as tie
 
-sub-load : tie.Need-sub-load
-sub-load c = search needs
-
-part-load-start : tie.Need-part-load-start
-part-load-start c = search needs
-
 part-load-end : tie.Need-part-load-end
 part-load-end c = let n = tested (now (c .before .before .args .area)) (c .before .before .pre) .long in omega arith
-
-load-requires : tie.Need-load-requires
-load-requires c κs = search needs
-
-wide-requires : tie.Need-wide-requires
-wide-requires c κs = search needs
-
-refused-requires : tie.Need-refused-requires
-refused-requires c κs = search needs
-
-same-length : tie.Need-same-length
-same-length c = search needs
 
 returns : tie.Need-returns
 returns c =
@@ -76,9 +58,6 @@ load-station-requires c κs =
     let il : i < 8 = station-small d s f i si in
     (long a bytes w, il)
 
-mul-if2 : tie.Need-mul-if2
-mul-if2 c = search needs
-
 array-read-if2 : tie.Need-array-read-if2
 array-read-if2 c =
     let g = c .before .before .before .before .before .before .before .before .before .args in
@@ -95,12 +74,6 @@ array-read-if2 c =
     let si : isStation d i ≡ true = a-station a bytes w h e i (omega arith) in
     let il : i < 8 = station-small d s f i si in
     il
-
-refused-requires-2 : tie.Need-refused-requires-2
-refused-requires-2 c κs = search needs
-
-same-length-2 : tie.Need-same-length-2
-same-length-2 c = search needs
 
 returns-2 : tie.Need-returns-2
 returns-2 c =
@@ -122,9 +95,6 @@ returns-2 c =
     refuses a bytes w (Enter i (g .register)) 6 (c .refused2 .result)
     (enter-used-up d s f i (g .register) si (rw (x, allowance-is a bytes w h e (stationView y .phase) i) (c .before .if2 .taken))) (c .refused2 .ensures)
 
-mul-if3 : tie.Need-mul-if3
-mul-if3 c = search needs
-
 array-read-if3 : tie.Need-array-read-if3
 array-read-if3 c =
     let g = c .before .before .before .before .before .before .before .before .before .before .before .before .args in
@@ -141,12 +111,6 @@ array-read-if3 c =
     let si : isStation d i ≡ true = a-station a bytes w h e i (omega arith) in
     let il : i < 8 = station-small d s f i si in
     il
-
-refused-requires-3 : tie.Need-refused-requires-3
-refused-requires-3 c κs = search needs
-
-same-length-3 : tie.Need-same-length-3
-same-length-3 c = search needs
 
 returns-3 : tie.Need-returns-3
 returns-3 c =
@@ -204,15 +168,6 @@ put-station-requires c κs =
     let il : i < 8 = station-small d s f i si in
     (long a bytes w, il)
 
-cast-entry : tie.Need-cast-entry
-cast-entry c = search needs
-
-entry-requires : tie.Need-entry-requires
-entry-requires c κs = search needs
-
-same-length-4 : tie.Need-same-length-4
-same-length-4 c = search needs
-
 returns-4 : tie.Need-returns-4
 returns-4 c =
     let g = c .before .before .before .before .before .before .before .before .before .before .before .before .before .before .before .before .before .before .before .before .args in
@@ -242,28 +197,9 @@ pub enter-spec : {M : Type 1} → statement M
 enter-spec =
     tie.close
     (tie.spec
-    sub-load
-    part-load-start
-    part-load-end
-    load-requires
-    wide-requires
-    refused-requires
-    same-length
-    returns
-    load-station-requires
-    mul-if2
-    array-read-if2
-    refused-requires-2
-    same-length-2
-    returns-2
-    mul-if3
-    array-read-if3
-    refused-requires-3
-    same-length-3
-    returns-3
-    entered-requires
-    put-station-requires
-    cast-entry
-    entry-requires
-    same-length-4
-    returns-4)
+    (λ c. search needs) (λ c. search needs) part-load-end (λ c κs. search needs)
+    (λ c κs. search needs) (λ c κs. search needs) (λ c. search needs) returns load-station-requires
+    (λ c. search needs) array-read-if2 (λ c κs. search needs) (λ c. search needs) returns-2
+    (λ c. search needs) array-read-if3 (λ c κs. search needs) (λ c. search needs) returns-3
+    entered-requires put-station-requires (λ c. search needs) (λ c κs. search needs)
+    (λ c. search needs) returns-4)

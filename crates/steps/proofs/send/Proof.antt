@@ -32,12 +32,6 @@ use borrow.Author.Needs.{needs}
 use Rattle.steps.proofs.send.Statement.{statement}
 use Rattle.steps.proofs.send.Tie as tie
 
-sub-load : tie.Need-sub-load
-sub-load c = search needs
-
-part-load-start : tie.Need-part-load-start
-part-load-start c = search needs
-
 -- a refusal other than 0 is the step's
 by-refusal : {c : Config} {s : State vector} {w : wellFormed c s ≡ true} {i j g : ℕ} {h : isStation c i ≡ true} {n : neighbours c i j ≡ true} {k : ℕ} (r : ℕ) → k ≡ r → Sent c s w i j g h n k → (r ≡ 0 → ⊥)
     → step c s (Send i j g) ≡ refuse s r
@@ -53,20 +47,8 @@ by-accepted r e (sent-accepted q a b d) z = (q, a, b, d)
 part-load-end : tie.Need-part-load-end
 part-load-end c = let n = tested (now (c .before .before .args .area)) (c .before .before .pre) .long in omega arith
 
-load-requires : tie.Need-load-requires
-load-requires c κs = search needs
-
-sub-load-limits : tie.Need-sub-load-limits
-sub-load-limits c = search needs
-
-part-load-limits-start : tie.Need-part-load-limits-start
-part-load-limits-start c = search needs
-
 part-load-limits-end : tie.Need-part-load-limits-end
 part-load-limits-end c = let n = tested (now (c .before .before .before .before .before .args .area)) (c .before .before .before .before .before .pre) .long in omega arith
-
-load-limits-requires : tie.Need-load-limits-requires
-load-limits-requires c κs = search needs
 
 linked-requires : tie.Need-linked-requires
 linked-requires c κs =
@@ -85,12 +67,6 @@ linked-requires c κs =
     let l : m ≡ tableAt 8 (take 512 a) 32 = c .load-limits .ensures in
     n-small a bytes w h e
 
-refused-requires : tie.Need-refused-requires
-refused-requires c κs = search needs
-
-same-length : tie.Need-same-length
-same-length c = search needs
-
 returns : tie.Need-returns
 returns c =
     let g = c .before .before .before .before .before .before .before .before .before .before .args in
@@ -108,9 +84,6 @@ returns c =
     let l : m ≡ tableAt 8 (take 512 a) 32 = c .before .before .before .load-limits .ensures in
     let u : (isStation d i && neighbours d i j) ≡ false = sym (linked-is a bytes w h e m l i j) ∙ (sym (c .before .before .linked .ensures) ∙ not-true _ (c .before .if1 .taken)) in
     refuses a bytes w (Send i j (g .register)) 4 (c .refused .result) (send-unknown d s f i j (g .register) u) (c .refused .ensures)
-
-mul-row : tie.Need-mul-row
-mul-row c = search needs
 
 array-copy-out-row : tie.Need-array-copy-out-row
 array-copy-out-row c =
@@ -223,12 +196,6 @@ send-refusal-requires c κs =
     let z = limit-small a bytes w i j il jl in
     (il, jl, rw (limit-of a bytes w m l i j) at z)
 
-refused-requires-2 : tie.Need-refused-requires-2
-refused-requires-2 c κs = search needs
-
-same-length-2 : tie.Need-same-length-2
-same-length-2 c = search needs
-
 returns-2 : tie.Need-returns-2
 returns-2 c =
     let g = c .before .before .before .before .before .before .before .before .before .before .before .before .before .before .before .before .before .args in
@@ -291,9 +258,6 @@ send-message-requires c κs =
     let q = c .before .before .before .count-at .ensures in
     (long a bytes w, il, jl, omega arith, omega arith, omega (arith, o .3))
 
-same-length-3 : tie.Need-same-length-3
-same-length-3 c = search needs
-
 returns-3 : tie.Need-returns-3
 returns-3 c =
     let g = c .before .before .before .before .before .before .before .before .before .before .before .before .before .before .before .before .before .before .before .before .args in
@@ -331,27 +295,9 @@ pub send-spec : {M : Type 1} → statement M
 send-spec =
     tie.close
     (tie.spec
-    sub-load
-    part-load-start
-    part-load-end
-    load-requires
-    sub-load-limits
-    part-load-limits-start
-    part-load-limits-end
-    load-limits-requires
-    linked-requires
-    refused-requires
-    same-length
-    returns
-    mul-row
-    array-copy-out-row
-    load-station-requires
-    count-at-requires
-    array-read-send-refusal
-    send-refusal-requires
-    refused-requires-2
-    same-length-2
-    returns-2
-    send-message-requires
-    same-length-3
+    (λ c. search needs) (λ c. search needs) part-load-end (λ c κs. search needs) (λ c. search needs)
+    (λ c. search needs) part-load-limits-end (λ c κs. search needs) linked-requires
+    (λ c κs. search needs) (λ c. search needs) returns (λ c. search needs) array-copy-out-row
+    load-station-requires count-at-requires array-read-send-refusal send-refusal-requires
+    (λ c κs. search needs) (λ c. search needs) returns-2 send-message-requires (λ c. search needs)
     returns-3)

@@ -15,27 +15,6 @@ use borrow.Author.Needs.{needs}
 use Rattle.steps.proofs.send_message.Statement.{statement}
 use Rattle.steps.proofs.send_message.Tie as tie
 
-sending-requires : tie.Need-sending-requires
-sending-requires c κs = search needs
-
-push-at-requires : tie.Need-push-at-requires
-push-at-requires c κs = search needs
-
-put-station-requires : tie.Need-put-station-requires
-put-station-requires c κs = search needs
-
-cast-entry : tie.Need-cast-entry
-cast-entry c = search needs
-
-cast-entry-2 : tie.Need-cast-entry-2
-cast-entry-2 c = search needs
-
-entry-requires : tie.Need-entry-requires
-entry-requires c κs = search needs
-
-same-length : tie.Need-same-length
-same-length c = search needs
-
 returns : tie.Need-returns
 unfolding itemOf
 returns c =
@@ -60,11 +39,5 @@ pub send-message-spec : {M : Type 1} → statement M
 send-message-spec =
     tie.close
     (tie.spec
-    sending-requires
-    push-at-requires
-    put-station-requires
-    cast-entry
-    cast-entry-2
-    entry-requires
-    same-length
-    returns)
+    (λ c κs. search needs) (λ c κs. search needs) (λ c κs. search needs) (λ c. search needs)
+    (λ c. search needs) (λ c κs. search needs) (λ c. search needs) returns)

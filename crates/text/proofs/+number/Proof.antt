@@ -22,14 +22,6 @@ number-at t = and 1 number-kinds.ps (is 1 number-kinds.ps μ-number t) number.Pr
 abbrev number-below : ℕ → In 1 number-kinds.ps
 number-below t = and 1 number-kinds.ps (falls 1 number-kinds.ps _<_ μ-number t) number.Pre
 
-number-digit-requires : (t : ℕ) → number-lts.Need-digit-requires (
-  digit-reads.Asked,
-  digit-reads.Learnt,
-  number-below t,
-  number.Post,
-) (number-at t) number.Post
-number-digit-requires t c κs = search needs
-
 number-slice-write-out : (t : ℕ) → number-lts.Need-slice-write-out (
   digit-reads.Asked,
   digit-reads.Learnt,
@@ -49,14 +41,6 @@ number-add-result : (t : ℕ) → number-lts.Need-add-result (
 number-add-result t c =
     let k = c .before .before .before in
     omega (arith, small-length (k .args .x) (c .before .if1 .taken))
-
-number-same-length : (t : ℕ) → number-lts.Need-same-length (
-  digit-reads.Asked,
-  digit-reads.Learnt,
-  number-below t,
-  number.Post,
-) (number-at t) number.Post
-number-same-length t c = search needs
 
 number-returns : (t : ℕ) → number-lts.Need-returns (
   digit-reads.Asked,
@@ -78,14 +62,6 @@ number-number-requires t c κs =
     let k = c .before .before .before in
     let l = large-length (k .args .x) (c .before .if1 .left) in
     (omega (arith, k .pre .0), omega arith)
-
-number-digit-requires-2 : (t : ℕ) → number-lts.Need-digit-requires-2 (
-  digit-reads.Asked,
-  digit-reads.Learnt,
-  number-below t,
-  number.Post,
-) (number-at t) number.Post
-number-digit-requires-2 t c κs = omega arith
 
 number-slice-write-out-2 : (t : ℕ) → number-lts.Need-slice-write-out-2 (
   digit-reads.Asked,
@@ -140,14 +116,7 @@ pub +number-spec : {M : Type 1} → statement M
 )
     (number-at t)
     number.Post
-    (number-digit-requires t)
-    (number-slice-write-out t)
-    (number-add-result t)
-    (number-same-length t)
-    (number-returns t)
-    (number-number-requires t)
-    (number-digit-requires-2 t)
-    (number-slice-write-out-2 t)
-    (number-add-result-2 t)
-    (number-same-length-2 t)
-    (number-returns-2 t)
+    (λ c κs. search needs) (number-slice-write-out t)
+    (number-add-result t) (λ c. search needs) (number-returns t)
+    (number-number-requires t) (λ c κs. omega arith) (number-slice-write-out-2 t)
+    (number-add-result-2 t) (number-same-length-2 t) (number-returns-2 t)

@@ -3,14 +3,8 @@ use borrow.Author.Needs.{needs}
 use Rattle.turning.proofs.entered.Statement.{statement}
 use Rattle.turning.proofs.entered.Tie as tie
 
-advance-requires : tie.Need-advance-requires
-advance-requires c κs = search needs
-
-add-x : tie.Need-add-x
-add-x c = search needs
-
 returns : tie.Need-returns
 returns c = rw (c .before .advance .ensures, add-one)
 
 pub entered-spec : {M : Type 1} → statement M
-entered-spec = tie.close (tie.spec advance-requires add-x returns)
+entered-spec = tie.close (tie.spec (λ c κs. search needs) (λ c. search needs) returns)

@@ -21,18 +21,6 @@ abbrev μ-loop : tie.MeasureT-loop
 loop-holds : tie.Need-loop-holds Inv-loop μ-loop
 loop-holds c = (omega arith, sym (every-none _))
 
-array-read-ok : tie.Need-array-read-ok Inv-loop μ-loop
-array-read-ok c = search needs
-
-array-read-ok-2 : tie.Need-array-read-ok-2 Inv-loop μ-loop
-array-read-ok-2 c = search needs
-
-add-j : tie.Need-add-j Inv-loop μ-loop
-add-j c = search needs
-
-loop-less : tie.Need-loop-less Inv-loop μ-loop
-loop-less c = search needs
-
 loop-again : tie.Need-loop-again Inv-loop μ-loop
 loop-again c = (omega arith, rw (every-turn, c .before .loop .inv .1))
 
@@ -46,10 +34,5 @@ every-seen-spec =
     (tie.spec
     Inv-loop
     μ-loop
-    loop-holds
-    array-read-ok
-    array-read-ok-2
-    add-j
-    loop-less
-    loop-again
-    returns)
+    loop-holds (λ c. search needs) (λ c. search needs) (λ c. search needs) (λ c. search needs)
+    loop-again returns)

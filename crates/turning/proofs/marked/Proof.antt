@@ -6,11 +6,8 @@ use borrow.Author.Needs.{needs}
 use Rattle.turning.proofs.marked.Statement.{statement}
 use Rattle.turning.proofs.marked.Tie as tie
 
-array-write-r : tie.Need-array-write-r
-array-write-r c = search needs
-
 returns : tie.Need-returns
 returns c = let a = c .args in sym (put-set false (a .marks) (a .j) true (omega arith))
 
 pub marked-spec : {M : Type 1} → statement M
-marked-spec = tie.close (tie.spec array-write-r returns)
+marked-spec = tie.close (tie.spec (λ c. search needs) returns)

@@ -8,17 +8,8 @@ use borrow.Author.Needs.{needs}
 use Rattle.turning.proofs.one_more.Statement.{statement}
 use Rattle.turning.proofs.one_more.Tie as tie
 
-array-read-r : tie.Need-array-read-r
-array-read-r c = search needs
-
-add-r : tie.Need-add-r
-add-r c = search needs
-
-array-write-r : tie.Need-array-write-r
-array-write-r c = search needs
-
 returns : tie.Need-returns
 returns c = let a = c .args in rw add-one (sym (put-set 0 (a .t1) (a .j) (suc (getD (a .t1) (a .j) 0)) (omega arith)))
 
 pub one-more-spec : {M : Type 1} → statement M
-one-more-spec = tie.close (tie.spec array-read-r add-r array-write-r returns)
+one-more-spec = tie.close (tie.spec (λ c. search needs) (λ c. search needs) (λ c. search needs) returns)

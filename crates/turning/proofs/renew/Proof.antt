@@ -5,12 +5,9 @@ use borrow.Author.Needs.{needs}
 use Rattle.turning.proofs.renew.Statement.{statement}
 use Rattle.turning.proofs.renew.Tie as tie
 
-add-phase : tie.Need-add-phase
-add-phase c = search needs
-
 returns : tie.Need-returns
 unfolding noneSeen zeros
 returns c = rw add-one
 
 pub renew-spec : {M : Type 1} → statement M
-renew-spec = tie.close (tie.spec add-phase returns)
+renew-spec = tie.close (tie.spec (λ c. search needs) returns)

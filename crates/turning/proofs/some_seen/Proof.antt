@@ -20,18 +20,6 @@ abbrev μ-loop : tie.MeasureT-loop
 loop-holds : tie.Need-loop-holds Inv-loop μ-loop
 loop-holds c = (omega arith, sym (some-empty _))
 
-array-read-any : tie.Need-array-read-any Inv-loop μ-loop
-array-read-any c = search needs
-
-array-read-any-2 : tie.Need-array-read-any-2 Inv-loop μ-loop
-array-read-any-2 c = search needs
-
-add-j : tie.Need-add-j Inv-loop μ-loop
-add-j c = search needs
-
-loop-less : tie.Need-loop-less Inv-loop μ-loop
-loop-less c = search needs
-
 loop-again : tie.Need-loop-again Inv-loop μ-loop
 loop-again c = (omega arith, rw (some-turn, c .before .loop .inv .1))
 
@@ -45,10 +33,5 @@ some-seen-spec =
     (tie.spec
     Inv-loop
     μ-loop
-    loop-holds
-    array-read-any
-    array-read-any-2
-    add-j
-    loop-less
-    loop-again
-    returns)
+    loop-holds (λ c. search needs) (λ c. search needs) (λ c. search needs) (λ c. search needs)
+    loop-again returns)

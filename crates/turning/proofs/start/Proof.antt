@@ -13,15 +13,6 @@ use borrow.Author.Needs.{needs}
 use Rattle.turning.proofs.start.Statement.{statement}
 use Rattle.turning.proofs.start.Tie as tie
 
-mul-row : tie.Need-mul-row
-mul-row c = search needs
-
-array-copy-out-row : tie.Need-array-copy-out-row
-array-copy-out-row c = search needs
-
-begin-requires : tie.Need-begin-requires
-begin-requires c κs = search needs
-
 turn-all-requires : tie.Need-turn-all-requires
 turn-all-requires c κs = omega (arith, ap (λ (x : Station vector). x .phase) (c .begin .ensures))
 
@@ -39,4 +30,4 @@ returns c =
 
 pub start-spec : {M : Type 1} → statement M
 start-spec =
-    tie.close (tie.spec mul-row array-copy-out-row begin-requires turn-all-requires returns)
+    tie.close (tie.spec (λ c. search needs) (λ c. search needs) (λ c κs. search needs) turn-all-requires returns)

@@ -10,15 +10,6 @@ use borrow.Author.Needs.{needs}
 use Rattle.turning.proofs.turn.Statement.{statement}
 use Rattle.turning.proofs.turn.Tie as tie
 
-mul-row : tie.Need-mul-row
-mul-row c = search needs
-
-array-copy-out-row : tie.Need-array-copy-out-row
-array-copy-out-row c = search needs
-
-turn-all-requires : tie.Need-turn-all-requires
-turn-all-requires c κs = search needs
-
 returns : tie.Need-returns
 returns c =
     let a = c .before .before .args in
@@ -31,4 +22,4 @@ returns c =
     )
 
 pub turn-spec : {M : Type 1} → statement M
-turn-spec = tie.close (tie.spec mul-row array-copy-out-row turn-all-requires returns)
+turn-spec = tie.close (tie.spec (λ c. search needs) (λ c. search needs) (λ c κs. search needs) returns)

@@ -8,15 +8,6 @@ use borrow.Author.Needs.{needs}
 use Rattle.turning.proofs.turn_all.Statement.{statement}
 use Rattle.turning.proofs.turn_all.Tie as tie
 
-turn-once-requires : tie.Need-turn-once-requires
-turn-once-requires c κs = search needs
-
-turn-once-requires-2 : tie.Need-turn-once-requires-2
-turn-once-requires-2 c κs = search needs
-
-turn-once-requires-3 : tie.Need-turn-once-requires-3
-turn-once-requires-3 c κs = search needs
-
 returns : tie.Need-returns
 returns c =
     λ (d : Config) (i : ℕ) (r : getD (d .limits) i [] ≡ c .before .before .before .args .row).
@@ -24,4 +15,4 @@ returns c =
 
 pub turn-all-spec : {M : Type 1} → statement M
 turn-all-spec =
-    tie.close (tie.spec turn-once-requires turn-once-requires-2 turn-once-requires-3 returns)
+    tie.close (tie.spec (λ c κs. search needs) (λ c κs. search needs) (λ c κs. search needs) returns)

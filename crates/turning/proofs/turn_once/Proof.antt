@@ -15,15 +15,6 @@ use borrow.Author.Needs.{needs}
 use Rattle.turning.proofs.turn_once.Statement.{statement}
 use Rattle.turning.proofs.turn_once.Tie as tie
 
-enum-told : tie.Need-enum-told
-enum-told c = search needs
-
-every-seen-requires : tie.Need-every-seen-requires
-every-seen-requires c κs = search needs
-
-renew-requires : tie.Need-renew-requires
-renew-requires c κs = search needs
-
 returns : tie.Need-returns
 returns c =
     let s = c .before .before .before .before .before .before .before .before in
@@ -33,15 +24,6 @@ returns c =
       omega (arith, ap (λ (x : Station vector). x .phase) (c .renew .ensures)),
     )
 
-enum-told-2 : tie.Need-enum-told-2
-enum-told-2 c = search needs
-
-every-seen-requires-2 : tie.Need-every-seen-requires-2
-every-seen-requires-2 c κs = search needs
-
-wake-requires : tie.Need-wake-requires
-wake-requires c κs = search needs
-
 returns-2 : tie.Need-returns-2
 returns-2 c =
     let s = c .before .before .before .before .before .before .before .before in
@@ -50,15 +32,6 @@ returns-2 c =
           rw (c .wake .ensures) (sym (once-stand-by d i (slotsView (s .args .t)) true e (every-seen d i (s .args .row) r (s .args .t .station .dones) ∙ sym (c .before .before .every-seen2 .ensures) ∙ c .before .if2 .taken))),
       omega (arith, ap (λ (x : Station vector). x .phase) (c .wake .ensures)),
     )
-
-enum-told-3 : tie.Need-enum-told-3
-enum-told-3 c = search needs
-
-some-seen-requires : tie.Need-some-seen-requires
-some-seen-requires c κs = search needs
-
-begin-requires : tie.Need-begin-requires
-begin-requires c κs = search needs
 
 returns-3 : tie.Need-returns-3
 returns-3 c =
@@ -100,18 +73,6 @@ pub turn-once-spec : {M : Type 1} → statement M
 turn-once-spec =
     tie.close
     (tie.spec
-    enum-told
-    every-seen-requires
-    renew-requires
-    returns
-    enum-told-2
-    every-seen-requires-2
-    wake-requires
-    returns-2
-    enum-told-3
-    some-seen-requires
-    begin-requires
-    returns-3
-    returns-4
-    returns-5
-    returns-6)
+    (λ c. search needs) (λ c κs. search needs) (λ c κs. search needs) returns (λ c. search needs)
+    (λ c κs. search needs) (λ c κs. search needs) returns-2 (λ c. search needs)
+    (λ c κs. search needs) (λ c κs. search needs) returns-3 returns-4 returns-5 returns-6)

@@ -3,11 +3,8 @@ use borrow.Author.Needs.{needs}
 use Rattle.turning.proofs.with_done.Statement.{statement}
 use Rattle.turning.proofs.with_done.Tie as tie
 
-marked-requires : tie.Need-marked-requires
-marked-requires c κs = search needs
-
 returns : tie.Need-returns
 returns c = (rw (c .marked .ensures), refl)
 
 pub with-done-spec : {M : Type 1} → statement M
-with-done-spec = tie.close (tie.spec marked-requires returns)
+with-done-spec = tie.close (tie.spec (λ c κs. search needs) returns)

@@ -27,17 +27,8 @@ loop-holds c =
 take-lines-requires : tie.Need-take-lines-requires Inv-loop μ-loop
 take-lines-requires c κs = let i = c .before .before .before .before .before .before .before .loop .inv in (i .5, i .0, omega (arith, i .4), omega arith, i .1, i .6)
 
-slice-reshare-prefix-put : tie.Need-slice-reshare-prefix-put Inv-loop μ-loop
-slice-reshare-prefix-put c = search needs
-
 slice-aggregate-put : tie.Need-slice-aggregate-put Inv-loop μ-loop
 slice-aggregate-put c = let r = c .before .before .before .before .before .before .before .before .before .take-lines .ensures .1 .0 .room in simp length-take (omega (arith, c .before .before .before .before .before .before .before .before .before .before .before .before .before .before .before .before .before .loop .inv .3))
-
-put-requires : tie.Need-put-requires Inv-loop μ-loop
-put-requires c κs = search needs
-
-settled-requires : tie.Need-settled-requires Inv-loop μ-loop
-settled-requires c κs = search needs
 
 same-length : tie.Need-same-length Inv-loop μ-loop
 same-length c = omega (arith, c .before .before .before .before .before .before .before .before .before .before .before .before .before .before .before .before .before .before .before .before .loop .inv .0, c .before .before .before .before .before .before .before .before .before .before .before .before .before .before .before .before .before .before .before .before .before .before .before .before .before .before .pre .1)
@@ -69,21 +60,6 @@ loop-again c =
     let f = c .before .before .before .before .before .before .before .before .before .before .before .take-lines .ensures in
     (omega (arith, i .0), omega (arith, i .1), omega (arith, i .2), omega (arith, i .3), f .0 .inside, f .0 .fits, f .1 .1, (_, goes-more (i .7 .1) (f .0 .goes)))
 
-settled-requires-2 : tie.Need-settled-requires-2 Inv-loop μ-loop
-settled-requires-2 c κs = search needs
-
-same-length-5 : tie.Need-same-length-5 Inv-loop μ-loop
-same-length-5 c = search needs
-
-same-length-6 : tie.Need-same-length-6 Inv-loop μ-loop
-same-length-6 c = search needs
-
-same-length-7 : tie.Need-same-length-7 Inv-loop μ-loop
-same-length-7 c = search needs
-
-same-length-8 : tie.Need-same-length-8 Inv-loop μ-loop
-same-length-8 c = search needs
-
 returns-2 : tie.Need-returns-2 Inv-loop μ-loop
 returns-2 c =
     let q = c .settled2 .ensures in
@@ -96,22 +72,7 @@ feed-spec =
     (tie.spec
     Inv-loop
     μ-loop
-    loop-holds
-    take-lines-requires
-    slice-reshare-prefix-put
-    slice-aggregate-put
-    put-requires
-    settled-requires
-    same-length
-    same-length-2
-    same-length-3
-    same-length-4
-    returns
-    loop-less
-    loop-again
-    settled-requires-2
-    same-length-5
-    same-length-6
-    same-length-7
-    same-length-8
-    returns-2)
+    loop-holds take-lines-requires (λ c. search needs) slice-aggregate-put (λ c κs. search needs)
+    (λ c κs. search needs) same-length same-length-2 same-length-3 same-length-4 returns loop-less
+    loop-again (λ c κs. search needs) (λ c. search needs) (λ c. search needs) (λ c. search needs)
+    (λ c. search needs) returns-2)

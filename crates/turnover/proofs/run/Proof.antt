@@ -21,16 +21,10 @@ Inv-loop bytes₀ line₀ block₀ area₀ out₀ s₀ turns₀ bytes line block
 abbrev μ-loop : tie.MeasureT-loop
 μ-loop bytes₀ line₀ block₀ area₀ out₀ s₀ turns₀ bytes line block area out s turns = turns
 
-opened-requires : tie.Need-opened-requires Inv-loop μ-loop
-opened-requires c κs = search needs
-
 loop-holds : tie.Need-loop-holds Inv-loop μ-loop
 loop-holds c =
     let p = c .before .before .before .before .before .before .pre in
     (omega arith, refl, refl, refl, refl, refl, rw (c .opened .ensures) tt, ([], ([], rw (p .1, p .2, c .opened .ensures) (goes-none beginning _ 0 []))))
-
-sub-turns : tie.Need-sub-turns Inv-loop μ-loop
-sub-turns c = search needs
 
 turn-requires : tie.Need-turn-requires Inv-loop μ-loop
 turn-requires c κs =
@@ -87,29 +81,11 @@ returns-2 c =
     let w = c .before .before .before .before .before .before .finish .ensures in
     (λ e. all-printed (passes-more (i .7 .1) (f .0 (c .before .before .before .before .before .before .before .before .before .before .before .before .before .if1 .left) .1)) (w .0), omega (arith, w .1))
 
-loop-less : tie.Need-loop-less Inv-loop μ-loop
-loop-less c = search needs
-
 loop-again : tie.Need-loop-again Inv-loop μ-loop
 loop-again c =
     let i = c .before .before .before .before .before .before .before .before .before .before .before .before .before .before .before .before .before .before .before .loop .inv in
     let f = c .before .before .before .before .before .before .before .before .before .before .before .before .turn .ensures in
     (f .1 .0, omega (arith, i .1), omega (arith, i .2), omega (arith, i .3), omega (arith, i .4), omega (arith, i .5), f .1 .1, (_, passes-more (i .7 .1) (f .0 (c .before .if1 .left) .1)))
-
-same-length-11 : tie.Need-same-length-11 Inv-loop μ-loop
-same-length-11 c = search needs
-
-same-length-12 : tie.Need-same-length-12 Inv-loop μ-loop
-same-length-12 c = search needs
-
-same-length-13 : tie.Need-same-length-13 Inv-loop μ-loop
-same-length-13 c = search needs
-
-same-length-14 : tie.Need-same-length-14 Inv-loop μ-loop
-same-length-14 c = search needs
-
-same-length-15 : tie.Need-same-length-15 Inv-loop μ-loop
-same-length-15 c = search needs
 
 returns-3 : tie.Need-returns-3 Inv-loop μ-loop
 returns-3 c = (λ e. absurd (true≢false e), omega arith)
@@ -120,28 +96,8 @@ run-spec =
     (tie.spec
     Inv-loop
     μ-loop
-    opened-requires
-    loop-holds
-    sub-turns
-    turn-requires
-    same-length
-    same-length-2
-    same-length-3
-    same-length-4
-    same-length-5
-    returns
-    finish-requires
-    same-length-6
-    same-length-7
-    same-length-8
-    same-length-9
-    same-length-10
-    returns-2
-    loop-less
-    loop-again
-    same-length-11
-    same-length-12
-    same-length-13
-    same-length-14
-    same-length-15
-    returns-3)
+    (λ c κs. search needs) loop-holds (λ c. search needs) turn-requires same-length same-length-2
+    same-length-3 same-length-4 same-length-5 returns finish-requires same-length-6 same-length-7
+    same-length-8 same-length-9 same-length-10 returns-2 (λ c. search needs) loop-again
+    (λ c. search needs) (λ c. search needs) (λ c. search needs) (λ c. search needs)
+    (λ c. search needs) returns-3)

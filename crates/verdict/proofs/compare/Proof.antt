@@ -35,15 +35,9 @@ returns : tie.Need-returns
 unfolding verdictOn
 returns c = let a = c .before .before .before .args in rw (other-length (now (a .first)) (now (a .second)) (c .if1 .taken))
 
-well-made-requires : tie.Need-well-made-requires
-well-made-requires c κs = search needs
-
 returns-2 : tie.Need-returns-2
 unfolding verdictOn
 returns-2 c = rw (sym (c .before .well-made .ensures) ∙ not-true _ (c .if2 .taken))
-
-well-made-requires-2 : tie.Need-well-made-requires-2
-well-made-requires-2 c κs = search needs
 
 returns-3 : tie.Need-returns-3
 unfolding verdictOn
@@ -59,9 +53,6 @@ returns-4 : tie.Need-returns-4
 unfolding verdictOn
 returns-4 c = rw ((sym (c .before .before .before .before .before .before .before .before .well-made .ensures) ∙ not-false _ (c .before .before .before .before .before .before .before .if2 .left)), (sym (c .before .before .before .before .before .before .well-made2 .ensures) ∙ not-false _ (c .before .before .before .before .before .if3 .left)), decided _ _ _ _ (c .before .before .before .before .load .ensures) (c .before .before .before .load2 .ensures), ne-eqb _ _ (c .if4 .taken))
 
-compare-requires : tie.Need-compare-requires
-compare-requires c κs = search needs
-
 returns-5 : tie.Need-returns-5
 unfolding verdictOn
 returns-5 c = rw ((sym (c .before .before .before .before .before .before .before .before .before .before .before .well-made .ensures) ∙ not-false _ (c .before .before .before .before .before .before .before .before .before .before .if2 .left)), (sym (c .before .before .before .before .before .before .before .before .before .well-made2 .ensures) ∙ not-false _ (c .before .before .before .before .before .before .before .before .if3 .left)), decided _ _ _ _ (c .before .before .before .before .before .before .before .load .ensures) (c .before .before .before .before .before .before .load2 .ensures), eq-eqb _ _ (c .before .before .before .if4 .left)) (cc)
@@ -70,13 +61,5 @@ pub compare-spec : {M : Type 1} → statement M
 compare-spec =
     tie.close
     (tie.spec
-    returns
-    well-made-requires
-    returns-2
-    well-made-requires-2
-    returns-3
-    load-requires
-    load-requires-2
-    returns-4
-    compare-requires
-    returns-5)
+    returns (λ c κs. search needs) returns-2 (λ c κs. search needs) returns-3 load-requires
+    load-requires-2 returns-4 (λ c κs. search needs) returns-5)
