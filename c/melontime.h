@@ -1,4 +1,4 @@
-/* The calls of the static library libhost.a. docs/HOST.md says what each of
+/* The calls of the static library libmelontime.a. docs/HOST.md says what each of
    them answers, and in which order refusals are tried.
 
    Every call returns a number. From 1 to 99 it is a refusal, which has left

@@ -1,4 +1,4 @@
-//! Links the static library that `rt staticlib host` writes.
+//! Links the static library that `rt staticlib melontime` writes.
 
 use std::env;
 use std::path::PathBuf;
@@ -12,15 +12,15 @@ fn main() {
             PathBuf::from(here).join("../../target/staticlib")
         }
     };
-    let library = folder.join("libhost.a");
+    let library = folder.join("libmelontime.a");
     println!("cargo::rerun-if-changed={}", library.display());
     if !library.exists() {
         println!(
-            "cargo::error={} is not there: run `rt staticlib host` in the root of the repository, \
+            "cargo::error={} is not there: run `rt staticlib melontime` in the root of the repository, \
              or name its folder in MELONTIME_LIB",
             library.display()
         );
     }
     println!("cargo::rustc-link-search=native={}", folder.display());
-    println!("cargo::rustc-link-lib=static=host");
+    println!("cargo::rustc-link-lib=static=melontime");
 }

@@ -21,7 +21,7 @@ use Rattle.reset.specs.Config.{Config, wellMade, networkRules}
 use Rattle.reset.specs.Clock.{vector}
 use Rattle.reset.specs.State.{State, blankStation, stationAt, linkAt}
 use Rattle.reset.specs.WellFormed.{shapeFits, rowLong, stationFits, linkFits, wellFormed}
-use Rattle.reset.specs.Formed.{Formed, formed-of, formed-back}
+use Rattle.reset.proofs.Formed.{Formed, formed-of, formed-back}
 use Rattle.rules.specs.Setup.{blockConfig, headerOf}
 use Rattle.rules.proofs.Laws.{accepted-well-made, block-back, well-made-accepted}
 use Rattle.station.specs.Image.{imageStation, parseStation}

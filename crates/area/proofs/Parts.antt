@@ -17,7 +17,7 @@ use Rattle.header.proofs.Laws as header
 use Rattle.reset.specs.Config.{Config}
 use Rattle.reset.specs.Clock.{vector}
 use Rattle.reset.specs.State.{Station, State, blankStation, stationAt, setStation, setLink}
-use Rattle.reset.specs.Views.{station-set, station-set-other, link-set-station, station-set-link, link-set, link-set-row, link-set-col}
+use Rattle.reset.proofs.Views.{station-set, station-set-other, link-set-station, station-set-link, link-set, link-set-row, link-set-col}
 use Rattle.rules.specs.Setup.{headerOf}
 use Rattle.station.specs.Image.{imageStation}
 use Rattle.station.proofs.Laws as station

@@ -3,12 +3,3 @@ pub mod HappenedBefore
 pub mod Sound
 pub mod Tables
 pub mod Worked
-pub mod Order
-pub mod Trace
-pub mod TraceLaws
-pub mod TraceOrder
-pub mod TracePlain
-pub mod SoundLaws
-pub mod History
-pub mod Phases
-pub mod Demand3

@@ -22,7 +22,7 @@ use Rattle.codec.proofs.EveryLaws.{both, join, every-none, every-at, every-of, 
 use Rattle.codec.proofs.BlankLaws.{blank-length, blank-append, blank-drop}
 use Rattle.reset.specs.Reach.{limit, linked}
 use Rattle.reset.specs.Config.{Config, isStation, neighbours, places, wellMade}
-use Rattle.reset.specs.ConfigLaws.{shape, linked-small}
+use Rattle.reset.proofs.ConfigLaws.{shape, linked-small}
 use Rattle.reset.specs.Clock.{vector}
 use Rattle.reset.specs.State.{Item, message, resetReq, resetDone}
 use Rattle.reset.specs.WellFormed.{countFits, countsFit, itemFits, itemFitsAt, linkFits}

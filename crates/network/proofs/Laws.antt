@@ -5,11 +5,11 @@ use mathlib.Core.List.{List}
 use mathlib.Core.Bool.{true, false}
 use Rattle.reset.specs.Steps.{Step}
 use Rattle.area.specs.Layout.{test}
-use Rattle.stepped.specs.Answers.{noRecord}
-use Rattle.stepped.specs.Formed.{Does}
-use Rattle.stepped.specs.declared.Answer.the-variants.{Refused}
-use Rattle.stepped.specs.declared.Stepped.{Stepped}
-use Rattle.calls.specs.Calls.{stepOn}
+use Rattle.steps.specs.Answers.{noRecord}
+use Rattle.steps.specs.Formed.{Does}
+use Rattle.steps.specs.declared.answer.Answer.the-variants.{Refused}
+use Rattle.steps.specs.declared.answer.Stepped.{Stepped}
+use Rattle.area_calls.specs.Calls.{stepOn}
 use Rattle.network.specs.Answers.{Steps}
 
 module _ (p : Step) (a : List ℕ) (r : Stepped) where

@@ -3,9 +3,9 @@ use Prim.Native.Nat.{ℕ}
 use mathlib.Core.Path.{_≡_}
 use mathlib.Core.List.{List}
 use Rattle.reset.specs.Steps.{Step}
-use Rattle.stepped.specs.Answers.{steppedOf}
-use Rattle.stepped.specs.declared.Stepped.{Stepped}
-use Rattle.calls.specs.Calls.{stepOn}
+use Rattle.steps.specs.Answers.{steppedOf}
+use Rattle.steps.specs.declared.answer.Stepped.{Stepped}
+use Rattle.area_calls.specs.Calls.{stepOn}
 
 -- r answers step p on area a, and b is the area afterwards
 pub record Steps (p : Step) (a : List ℕ) (r : Stepped) (b : List ℕ) : Type 0 where

@@ -16,7 +16,7 @@ use Rattle.header.specs.declared.Header.{Header}
 use Rattle.header.proofs.Laws.{Typed, Table, table-rows, table-row, well-made-parts, parse-image, table-image, image-accepted}
 use Rattle.reset.specs.Reach.{limit}
 use Rattle.reset.specs.Config.{Config, sizeFits, allowanceFits, allowancesFit, wellMade, rowFits as rowFitsAt, limitsFit as tableFits}
-use Rattle.reset.specs.ConfigLaws.{shape}
+use Rattle.reset.proofs.ConfigLaws.{shape}
 use Rattle.rules.specs.Setup.{headerConfig, blockConfig, headerOf}
 
 -- ---- the two tests

@@ -1,2 +1,3 @@
+pub mod SpreadLaws
 pub mod SumLaws
 pub mod Laws

@@ -7,7 +7,7 @@ ghost use lib.ListN.{length, getD};
 ghost use Rattle.codec.specs.Rows.{upto};
 ghost use Rattle.codec.specs.Splice.{splice};
 ghost use Rattle.station.specs.View.{stationView};
-ghost use Rattle.calls.specs.Calls.{setupOn};
+ghost use Rattle.area_calls.specs.Calls.{setupOn};
 ghost use Rattle.setup.specs.Limits.{initialOf, initialBytes};
 use station::Mode;
 use station::Station;
@@ -70,7 +70,7 @@ pub fn setup(block: &[u8], area: &mut [u8]) -> u8
         return 1;
     }
     let limits = header::load_limits(block);
-    if !rules::setup_fits(header::load(block), limits) {
+    if !rules::network::setup_fits(header::load(block), limits) {
         return 3;
     }
     codec::put_bytes(area, 0, block);

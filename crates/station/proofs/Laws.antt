@@ -18,7 +18,7 @@ use Rattle.codec.proofs.Fronts.{front-part, front-nums, front-num, front-none, 
 use Rattle.codec.proofs.Has.{Has, has-first, has-last, has-more, has-num, has-nums, has-byte, has-at}
 use Rattle.reset.specs.Config.{Config, isStation, limitAt, allowanceAt, sizeFits, allowanceFits, allowancesFit, wellMade}
 use Rattle.reset.specs.Reach.{limit}
-use Rattle.reset.specs.ConfigLaws.{shape}
+use Rattle.reset.proofs.ConfigLaws.{shape}
 use Rattle.reset.specs.Clock.{vector}
 use Rattle.reset.specs.State.{Mode, normal, mute, standBy, Station}
 use Rattle.reset.specs.WellFormed.{ofStation, countFits, countsFit, modeFits, phaseFits, ownFits, sentFitsTo, sentFits, marksFit, stationFits}

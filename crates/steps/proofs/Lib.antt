@@ -1,1 +1,5 @@
+pub mod Read
+pub mod LinkLaws
 pub mod SendLaws
+pub mod ReceiptLaws
+pub mod TakingLaws

@@ -12,7 +12,7 @@ use Rattle.reset.specs.Clock.{vector}
 use Rattle.reset.specs.State.{State, stationAt, linkAt, doneSeen, sentTo}
 use Rattle.reset.specs.Steps.{send, refuse, maySend, doSend, step}
 use Rattle.reset.specs.WellFormed.{wellFormed}
-use Rattle.bounds.specs.Outcome.{send-forbidden, send-used-up, send-full, send-no-room, send-done}
+use Rattle.step_outcomes.proofs.Outcome.{send-forbidden, send-used-up, send-full, send-no-room, send-done}
 use Rattle.steps.specs.Sending.{sendRefusal}
 
 module _ (c : Config) (s : State vector) (w : wellFormed c s ≡ true) where

@@ -5,16 +5,16 @@ use libc::EINTR;
 use libc::STDIN_FILENO;
 use libc::STDOUT_FILENO;
 use libc::types::timespec;
-use session::Taken;
-use settings::Run;
+use turnover_session::Taken;
+use turnover_settings::Run;
 ghost use mathlib.Core.Path.{_≡_};
 ghost use mathlib.Core.Bool.{false};
 ghost use mathlib.Core.List.{List};
 ghost use Prim.Native.Nat.{ℕ, _≤_};
 ghost use lib.ListN.{length};
 ghost use Rattle.codec.specs.Every.{blank as Blank};
-ghost use Rattle.driver.specs.Run.{standing, Ready};
-ghost use Rattle.session.specs.Turnover.{Passes, Prints};
+ghost use Rattle.turnover_commands.specs.Run.{standing, Ready};
+ghost use Rattle.turnover_session.specs.Turnover.{Passes, Prints};
 
 // Between reads: how much of a line is kept, whether more is read, whether a read or a write has failed, and the run.
 struct Reading {
@@ -102,7 +102,7 @@ fn settled(t: Taken, failed: bool) -> Reading
     let run = t.run;
     Reading {
         have: t.have,
-        open: !failed & !driver::ended(run),
+        open: !failed & !turnover_commands::ended(run),
         failed,
         run,
     }
@@ -130,7 +130,7 @@ fn feed(
     };
     while t.next < bytes.len() {
         let before = t.run;
-        t = session::take_lines(line, t.have, bytes, t.next, block, area, out, 0, before);
+        t = turnover_session::take_lines(line, t.have, bytes, t.next, block, area, out, 0, before);
         let end = t.end;
         if !put(&out[..end]) {
             return settled(t, true);
@@ -177,7 +177,7 @@ fn run(bytes: &mut [u8], line: &mut [u8], block: &mut [u8], area: &mut [u8], out
         have: 0,
         open: true,
         failed: false,
-        run: settings::opened(),
+        run: turnover_settings::opened(),
     };
     let mut turns = u64::MAX;
     while turns > 0 {
@@ -190,7 +190,7 @@ fn run(bytes: &mut [u8], line: &mut [u8], block: &mut [u8], area: &mut [u8], out
         let open = s.open;
         if !open {
             let last = s.run;
-            let end = session::finish(&line[..], s.have, block, area, out, 0, last);
+            let end = turnover_session::finish(&line[..], s.have, block, area, out, 0, last);
             return Last { end, failed };
         }
     }

@@ -1,5 +1,5 @@
 //! What the binaries share: the numbers and lines that the programs of
-//! `crates/*_check` write, and the classes of cases of `crates/vectors`,
+//! `crates/check_*` write, and the classes of cases of `crates/check_vectors`,
 //! answered by the independent implementation.
 
 #![forbid(unsafe_code)]

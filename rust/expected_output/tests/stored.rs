@@ -32,31 +32,31 @@ fn lines(bytes: &[u8]) -> Vec<String> {
 }
 
 #[test]
-fn clock_check() {
-    compare("clock_check", env!("CARGO_BIN_EXE_clock_check"));
+fn check_clock() {
+    compare("check_clock", env!("CARGO_BIN_EXE_check_clock"));
 }
 
 #[test]
-fn blocks_check() {
-    compare("blocks_check", env!("CARGO_BIN_EXE_blocks_check"));
+fn check_blocks() {
+    compare("check_blocks", env!("CARGO_BIN_EXE_check_blocks"));
 }
 
 #[test]
-fn records_check() {
-    compare("records_check", env!("CARGO_BIN_EXE_records_check"));
+fn check_records() {
+    compare("check_records", env!("CARGO_BIN_EXE_check_records"));
 }
 
 #[test]
-fn rules_check() {
-    compare("rules_check", env!("CARGO_BIN_EXE_rules_check"));
+fn check_rules() {
+    compare("check_rules", env!("CARGO_BIN_EXE_check_rules"));
 }
 
 #[test]
-fn network_check() {
-    compare("network_check", env!("CARGO_BIN_EXE_network_check"));
+fn check_network() {
+    compare("check_network", env!("CARGO_BIN_EXE_check_network"));
 }
 
 #[test]
-fn reader_check() {
-    compare("reader_check", env!("CARGO_BIN_EXE_reader_check"));
+fn check_reader() {
+    compare("check_reader", env!("CARGO_BIN_EXE_check_reader"));
 }

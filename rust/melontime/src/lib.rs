@@ -58,7 +58,7 @@
 //! # Ok::<(), Refusal>(())
 //! ```
 //!
-//! The library is linked as `libhost.a` from the folder `target/staticlib` of
+//! The library is linked as `libmelontime.a` from the folder `target/staticlib` of
 //! the repository, or from the one that the environment variable
 //! `MELONTIME_LIB` names.
 

@@ -10,7 +10,7 @@ use Rattle.header.specs.Header.{tableAt}
 use Rattle.header.proofs.Laws.{table-at}
 use Rattle.reset.specs.Reach.{limit, linked}
 use Rattle.reset.specs.Config.{neighbours, places, wellMade}
-use Rattle.reset.specs.ConfigLaws.{shape}
+use Rattle.reset.proofs.ConfigLaws.{shape}
 use Rattle.rules.specs.Setup.{blockConfig}
 use borrow.Author.Needs.{needs}
 use Rattle.area.proofs.places_of.Statement.{statement}

@@ -12,7 +12,7 @@ use Rattle.header.specs.declared.Header.{Header}
 use Rattle.header.proofs.Laws.{well-made-length}
 use Rattle.reset.specs.Config.{networkRules}
 use Rattle.rules.specs.Setup.{headerConfig, blockConfig}
-use Rattle.calls.specs.Calls.{setupOn}
+use Rattle.area_calls.specs.Calls.{setupOn}
 use Rattle.setup.proofs.Laws.{all-written}
 use borrow.Author.Needs.{needs}
 use Rattle.setup.proofs.setup.Statement.{statement}

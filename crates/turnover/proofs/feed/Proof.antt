@@ -5,9 +5,9 @@ use mathlib.Core.List.{List, []}
 use native.Mathlib.Omega.{arith}
 use lib.ListN.{length, drop, length-take}
 use borrow.Author.Needs.{needs}
-use Rattle.driver.specs.Run.{standing, Ready}
-use Rattle.session.specs.Turnover.{Goes}
-use Rattle.session.proofs.Laws.{goes-none, goes-more, goes-whole}
+use Rattle.turnover_commands.specs.Run.{standing, Ready}
+use Rattle.turnover_session.specs.Turnover.{Goes}
+use Rattle.turnover_session.proofs.Laws.{goes-none, goes-more, goes-whole}
 use Rattle.turnover.proofs.feed.Statement.{statement}
 use Rattle.turnover.proofs.feed.Tie as tie
 

@@ -7,9 +7,9 @@ use denote.Ref.{now}
 use lib.ListN.{length}
 use borrow.Author.Needs.{needs}
 use Rattle.codec.proofs.BlankLaws.{blank-length}
-use Rattle.driver.specs.Run.{standing, Ready}
-use Rattle.session.specs.Turnover.{beginning, Passes}
-use Rattle.session.proofs.Laws.{goes-none, passes-more, all-printed}
+use Rattle.turnover_commands.specs.Run.{standing, Ready}
+use Rattle.turnover_session.specs.Turnover.{beginning, Passes}
+use Rattle.turnover_session.proofs.Laws.{goes-none, passes-more, all-printed}
 use Rattle.turnover.proofs.run.Statement.{statement}
 use Rattle.turnover.proofs.run.Tie as tie
 

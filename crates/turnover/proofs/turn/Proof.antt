@@ -1,6 +1,6 @@
 use mathlib.Core.List.{[]}
 use borrow.Author.Needs.{needs}
-use Rattle.session.proofs.Laws.{goes-none}
+use Rattle.turnover_session.proofs.Laws.{goes-none}
 use Rattle.turnover.proofs.turn.Statement.{statement}
 use Rattle.turnover.proofs.turn.Tie as tie
 

@@ -1,3 +1,0 @@
-pub mod Calls
-pub mod Sound
-pub mod Demand3

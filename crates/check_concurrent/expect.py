@@ -1,0 +1,159 @@
+# Writes what check_concurrent is to print, from a model of its own: python3 expect.py > stdout
+def counts(k):
+    m = k // 2
+    return [1 + m // 3 + (m + 3 * i) % 5 for i in range(8)]
+
+def event(k):
+    kind, station = 1 + k // 3 % 3, k % 8
+    return dict(kind=kind, station=station, peer=255 if kind == 1 else (station + 1) % 8, phase=k % 3, register=k, counts=counts(k))
+
+def num(x, w):
+    return x.to_bytes(w, "little")
+
+def image(r):
+    return bytes([r["kind"], r["station"], r["peer"], 0]) + num(r["phase"], 4) + num(r["register"], 4) + bytes(4) + b"".join(num(c, 2) for c in r["counts"])
+
+def seal(b):
+    b = bytes(b[:510])
+    return b + num((1 + sum((p + 1) * x for p, x in enumerate(b))) % 65521, 2)
+
+def header(n, t):
+    return seal(bytes([1, n]) + num(t, 2) + bytes(28) + bytes([5] * 64) + bytes(414))
+
+def entries(number, ks):
+    b = bytes([2, len(ks), 0, 0]) + num(number, 4) + bytes(8) + b"".join(image(event(k)) for k in ks)
+    return seal(b + bytes(510 - len(b)))
+
+def make(n):
+    return header(8, 2000) + b"".join(entries(b + 1, range(15 * b, min(n, 15 * b + 15))) for b in range((n + 14) // 15))
+
+def parse(r):
+    g = lambda o, w: int.from_bytes(r[o:o + w], "little")
+    return dict(kind=r[0], station=r[1], peer=r[2], phase=g(4, 4), register=g(8, 4), counts=[g(16 + 2 * i, 2) for i in range(8)])
+
+def record_ok(r):
+    d = parse(r)
+    if r[3] or any(r[12:16]) or d["kind"] not in (1, 2, 3) or d["station"] > 7 or d["phase"] > 999999:
+        return False
+    if (d["kind"] == 1) != (d["peer"] == 255) or (d["kind"] > 1 and (d["peer"] > 7 or d["peer"] == d["station"])):
+        return False
+    return d["counts"][d["station"]] >= 1
+
+def known(d, n, t, limit):
+    if d["station"] >= n or any(c > (t if i < n else 0) for i, c in enumerate(d["counts"])):
+        return False
+    if d["kind"] == 1:
+        return True
+    a, b = (d["station"], d["peer"]) if d["kind"] == 2 else (d["peer"], d["station"])
+    return d["peer"] < n and limit[8 * a + b] > 0
+
+# The records of an archive, or nothing where the bytes are no archive.
+def read(a):
+    if len(a) % 512 or not a or any(seal(a[o:o + 512]) != a[o:o + 512] for o in range(0, len(a), 512)):
+        return None
+    h = a[:512]
+    n, t, limit = h[1], h[2] + 256 * h[3], h[32:96]
+    if h[0] != 1 or not 1 <= n <= 8 or t < 1 or any(h[4:16]) or any(h[96:510]) or any(x > 32 for x in limit):
+        return None
+    out, total = [], len(a) // 512 - 1
+    for b in range(1, total + 1):
+        e = a[512 * b:512 * b + 512]
+        c = e[1]
+        if e[0] != 2 or not 1 <= c <= 15 or any(e[2:4]) or int.from_bytes(e[4:8], "little") != b or any(e[8:16]) or any(e[16 + 32 * c:510]):
+            return None
+        if c < 15 and b < total:
+            return None
+        rs = [e[16 + 32 * k:48 + 32 * k] for k in range(c)]
+        if not all(record_ok(r) and known(parse(r), n, t, limit) for r in rs):
+            return None
+        out += [parse(r) for r in rs]
+    return out
+
+def verdict(x, y):
+    p, q = x["counts"], y["counts"]
+    if p == q:
+        return "same"
+    if all(i <= j for i, j in zip(p, q)):
+        return "before"
+    return "after" if all(i >= j for i, j in zip(p, q)) else "unordered"
+
+out = []
+say = out.append
+
+def lister(rs, r, places):
+    say(f"  record {r}, places {places}: ")
+    if rs is None or r >= len(rs):
+        return say(f"refused {1 if rs is None else 12}, left 1000\n")
+    found = [k for k, x in enumerate(rs) if x["phase"] == rs[r]["phase"] and verdict(rs[r], x) == "unordered"]
+    if len(found) > places:
+        return say("refused 11, left 1000\n")
+    say(f"count {len(found)}" + "".join(f" {k}" for k in found) + f", left {1000 - len(found)}\n")
+
+def order(rs, i, j):
+    if rs is None:
+        return say(" 1")
+    if i >= len(rs) or j >= len(rs):
+        return say(" 12")
+    say(" 10" if rs[i]["phase"] != rs[j]["phase"] else " " + verdict(rs[i], rs[j]))
+
+def orders(rs, i, n):
+    say(f"  order of {i}:")
+    for j in range(n + 1):
+        order(rs, i, j)
+    say("\n")
+
+def fits(rs, r):
+    for places in range(10):
+        lister(rs, r, places)
+
+def refusals(a):
+    rs, top = read(a), 2 ** 64 - 1
+    lister(rs, 0, 1000)
+    lister(rs, top, 0)
+    lister(rs, 4, 0)
+    say("  orders:")
+    for i, j in ((0, 3), (0, 1), (0, top), (top, 0)):
+        order(rs, i, j)
+    say("\n")
+
+def total(a):
+    rs = read(a)
+    say(": refused 1\n" if rs is None else f": records {len(rs)}\n")
+
+for n in (0, 1, 14, 15, 16, 30, 31):
+    say(f"records {n}\n")
+    rs = read(make(n))
+    for r in range(n + 1):
+        lister(rs, r, 1000)
+    for i in (0, 4, n):
+        orders(rs, i, n)
+
+say("spoilt\n")
+a = make(31)
+fits(read(a), 4)
+for part in (a, a[:2047], a[:512], b"", a[512:]):
+    refusals(part)
+refusals(a[:1552] + b"\0" + a[1553:])
+
+say("harmed\n")
+cases = [(0, 1, 8), (0, 1, 7), (0, 2, 0), (0, 60, 0), (0, 94, 0), (0, 67, 0), (0, 34, 0), (0, 0, 2)]
+cases += [(1, 4, 1), (1, 4, 2), (2, 4, 1), (2, 7, 1), (3, 4, 4), (3, 1, 2), (2, 1, 14), (3, 0, 1), (3, 17, 8), (3, 18, 3), (3, 18, 6)]
+cases += [(3, 22, 16), (3, 32, 208), (3, 33, 7), (3, 33, 8), (3, 44, 0), (3, 48, 1)]
+for b, p, x in cases:
+    say(f"  block {b}, byte {p} set to {x}")
+    c = a[512 * b:512 * b + p] + bytes([x]) + a[512 * b + p + 1:512 * b + 512]
+    total(a[:512 * b] + seal(c) + a[512 * b + 512:])
+short = a[:1024] + entries(2, range(15, 29)) + a[1536:]
+wrong = a[:2046] + bytes([(a[2046] + 1) % 256]) + a[2047:]
+for word, part in (("in block 2 14", short), ("at the end 14", short[:1536]), ("in block 2 15", a), ("at the end 15", a[:1536]), ("a wrong check at the end", wrong), ("without that block", wrong[:1536])):
+    say("  " + word)
+    total(part)
+
+rs = read(make(3000))
+say("records 3000")
+total(make(3000))
+for r in (0, 14, 15, 1500, 2999, 3000):
+    lister(rs, r, 1000)
+fits(rs, 2999)
+orders(rs, 1500, 3000)
+print("".join(out), end="")

@@ -1,0 +1,93 @@
+// Answers, as lines.
+use record::Record;
+use quiescence::RestAnswer;
+use station::Mode;
+use steps::answer::Answer;
+use steps::answer::Stepped;
+
+fn word(mode: Mode) {
+    match mode {
+        Mode::Normal => {
+            io::write_all(1, b" normal");
+        }
+        Mode::Mute => {
+            io::write_all(1, b" mute");
+        }
+        Mode::StandBy => {
+            io::write_all(1, b" stand-by");
+        }
+    }
+}
+
+// The first n counts, a space before each.
+fn counts(c: [u16; 8], n: u8) {
+    let top = n as usize;
+    let mut i = 0;
+    while i < 8 {
+        if i < top {
+            check_vectors::put(b" ", check_vectors::wide16(c[i]));
+        }
+        i += 1;
+    }
+}
+
+fn entry(r: Record, n: u8) {
+    let c = r.counts;
+    check_vectors::put(b" entry ", r.phase as u64);
+    check_vectors::put(b" ", check_vectors::wide(r.station));
+    counts(c, n);
+}
+
+fn body(a: Answer, event: Record, station: u32, n: u8) {
+    match a {
+        Answer::Refused(k) => {
+            check_vectors::put(b" no ", check_vectors::wide(k));
+        }
+        Answer::Entered => {
+            entry(event, n);
+        }
+        Answer::InMode { mode, phase } => {
+            check_vectors::put(b" mode ", phase as u64);
+            check_vectors::put(b" ", station as u64);
+            word(mode);
+        }
+    }
+}
+
+// A step's answer: an entry with its phase, station and n counts, a mode with its phase and station, or a refusal.
+pub fn answer(number: usize, station: u32, n: u8, r: Stepped) {
+    let a = r.answer;
+    let event = r.event;
+    io::print_decimal(1, number as u64);
+    body(a, event, station, n);
+    check_vectors::end();
+}
+
+pub fn rest(number: usize, r: RestAnswer) {
+    io::print_decimal(1, number as u64);
+    match r {
+        RestAnswer::Yes => {
+            io::write_all(1, b" rest yes\n");
+        }
+        RestAnswer::No => {
+            io::write_all(1, b" rest no\n");
+        }
+        RestAnswer::Refused(k) => {
+            check_vectors::say(b" rest refused ", check_vectors::wide(k));
+        }
+    }
+}
+
+fn refusal_of(a: Answer) -> u8 {
+    match a {
+        Answer::Refused(k) => k,
+        Answer::Entered => 0,
+        Answer::InMode { mode: _, phase: _ } => 0,
+    }
+}
+
+// The number of a refusal, or 0.
+pub fn refusal(r: Stepped) -> u8 {
+    let a = r.answer;
+    refusal_of(a)
+}

@@ -1,4 +1,0 @@
-pub mod MadeLaws
-pub mod StartLaws
-pub mod TextLaws
-pub mod Cases

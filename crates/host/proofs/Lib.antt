@@ -1,4 +1,0 @@
-pub mod Laws
-pub mod Blocks
-pub mod Headers
-pub mod Archives

@@ -1,7 +1,0 @@
-pub mod Numbers
-pub mod Calls
-pub mod Headers
-pub mod Archives
-pub mod Distinct
-pub mod Refused
-pub mod Worked

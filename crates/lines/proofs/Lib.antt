@@ -1,3 +1,0 @@
-pub mod LineLaws
-pub mod KeptLaws
-pub mod FillLaws

@@ -1,0 +1,24 @@
+-- The calls on a whole archive for a host. Assumes nothing.
+use Prim.Native.Nat.{ℕ}
+use mathlib.Core.Path.{_≡_}
+use mathlib.Core.List.{List}
+use mathlib.Core.Bool.{cond}
+use lib.Dec.{eqb, ltb}
+use lib.ListN.{length}
+use Rattle.codec.specs.Splice.{splice}
+use Rattle.codec.specs.Written.{Written, refused, wrote}
+use Rattle.archive.specs.Archive.{findRecord, foundRecord}
+use Rattle.concurrent.specs.Unordered.{unorderedAnswer, ListAfter}
+use Rattle.melontime.specs.Numbers.{listedNumber}
+
+-- a record that is not found is refused as the archive refuses it, an area of under 32 bytes is 11; the rest of an area is left
+unfoldable pub recordFound : List ℕ → ℕ → List ℕ → Written
+recordFound a k d =
+    cond (eqb (findRecord a k) 0)
+    (cond (ltb (length d) 32) (refused 11 d) (wrote (splice d 0 (foundRecord a k))))
+    (refused (findRecord a k) d)
+
+-- the call of record k's unordered list returned r, and left the list as `after`
+pub record Listing (a : List ℕ) (k : ℕ) (before after : List ℕ) (r : ℕ) : Type 0 where
+  pub number : r ≡ listedNumber (unorderedAnswer a k (length before))
+  pub leaves : ListAfter a k before after (unorderedAnswer a k (length before))

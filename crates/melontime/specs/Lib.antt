@@ -1,0 +1,5 @@
+pub mod Numbers
+pub mod Calls
+pub mod Headers
+pub mod Archives
+pub mod Worked

@@ -1,0 +1,67 @@
+-- The number that a host's call returns for each answer. A refusal is its own number; the others start at 100 or 1,000. Assumes nothing.
+use Prim.Native.Nat.{ℕ, _+_, _*_}
+use Rattle.clock.specs.declared.Verdict.{Verdict}
+use Rattle.clock.specs.declared.Verdict.the-variants.{Before, After, Same, Unordered}
+use Rattle.verdict.specs.declared.Compared.{Compared}
+use Rattle.verdict.specs.declared.Compared.the-variants.{Ordered, Refused}
+use Rattle.entries.specs.declared.EntriesRead.{EntriesRead}
+use Rattle.entries.specs.declared.EntriesRead.the-variants.{Block, Refused as NoBlock}
+use Rattle.archive.specs.declared.Counted.{Counted}
+use Rattle.archive.specs.declared.Counted.the-variants.{Records, Refused as NoArchive}
+use Rattle.concurrent.specs.declared.Listed.{Listed}
+use Rattle.concurrent.specs.declared.Listed.the-variants.{Count, Refused as NoList}
+use Rattle.reset.specs.Steps.{Answer, refused, entry, modeAfter}
+use Rattle.area_calls.specs.Calls.{RestAnswer, yes, no, restRefused}
+use Rattle.station.specs.Image.{modeByte}
+use Rattle.station.specs.View.{modeView}
+use Rattle.steps.specs.declared.answer.Answer.{Answer as CodeAnswer}
+use Rattle.steps.specs.declared.answer.Answer.the-variants.{Refused as NotDone, Entered, InMode}
+use mathlib.Core.Bool.{Bool, true, false}
+
+-- a step: 100 for an accepted entry, 1,000 + 4 × phase + mode for the mode and phase after; the mode is 0 normal, 1 mute, 2 stand-by
+abbrev pub stepNumber : Answer → ℕ
+stepNumber (refused k) = k
+stepNumber (entry e) = 100
+stepNumber (modeAfter i m p) = 1000 + (4 * p + modeByte m)
+
+-- rest: 100 yes, 101 no
+abbrev pub restNumber : RestAnswer → ℕ
+restNumber yes = 100
+restNumber no = 101
+restNumber (restRefused k) = k
+
+-- a verdict: 100 before, 101 after, 102 same, 103 unordered
+abbrev pub orderNumber : Verdict → ℕ
+orderNumber Before = 100
+orderNumber After = 101
+orderNumber Same = 102
+orderNumber Unordered = 103
+
+abbrev pub verdictNumber : Compared → ℕ
+verdictNumber (Ordered v) = orderNumber v
+verdictNumber (Refused k) = k
+
+-- an entries block read: 1,000 + 16 × number + count
+abbrev pub blockNumber : EntriesRead → ℕ
+blockNumber (Block n k) = 1000 + (16 * n + k)
+blockNumber (NoBlock k) = k
+
+-- how many records an archive has, and how many an unordered list: 1,000 + the count
+abbrev pub countedNumber : Counted → ℕ
+countedNumber (Records n) = 1000 + n
+countedNumber (NoArchive k) = k
+
+abbrev pub listedNumber : Listed → ℕ
+listedNumber (Count n) = 1000 + n
+listedNumber (NoList k) = k
+
+-- the same numbers, by the answer as the code has it
+abbrev pub codeNumber : CodeAnswer → ℕ
+codeNumber (NotDone k) = k
+codeNumber Entered = 100
+codeNumber (InMode m p) = 1000 + (4 * p + modeByte (modeView m))
+
+abbrev pub isEntry : CodeAnswer → Bool
+isEntry (NotDone k) = false
+isEntry Entered = true
+isEntry (InMode m p) = false

@@ -1,0 +1,229 @@
+-- The initial network is well formed, and every step leaves a well-formed state well formed. Assumes nothing.
+use Prim.Native.Nat.{ℕ, zero, suc, _≤_, _<_}
+use mathlib.Core.Path.{_≡_, refl, _∙_}
+use mathlib.Core.List.{List, [], _∷_}
+use mathlib.Core.Bool.{Bool, true, false, _&&_, _||_}
+use native.Mathlib.Omega.{arith}
+use native.Mathlib.Decide.{ℕ-discrete}
+use lib.Dec.{leb}
+use lib.ListN.{getD, length, replicate}
+use borrow.Author.Tests.{leb-true, le-leb, ltb-true}
+use Rattle.codec.specs.Every.{every}
+use Rattle.codec.proofs.EveryLaws.{both, join, every-at, every-of}
+use Rattle.codec.proofs.Stride.{upto-at, upto-length}
+use Rattle.reset.specs.Config.{Config, isStation, neighbours, limitAt, allowanceAt, places, wellMade, networkRules}
+use Rattle.reset.proofs.ConfigLaws.{Rules, rules}
+use Rattle.reset.specs.Clock.{vector}
+use Rattle.reset.specs.State.{Item, message, resetReq, resetDone, Station, State, stationAt, linkAt, sentTo}
+use Rattle.reset.specs.Steps.{phaseBounded, countBounded, linkBounded, inBounds, Step, doEnter, sending, doSend, doReceive, doMark, doStart, step}
+use Rattle.reset.specs.Network.{initialStation, initial, run}
+use Rattle.reset.specs.WellFormed.{registerFits, ofStation, countsFit, stationFits, itemFits, itemFitsAt, linkFits, shapeFits, stationFitsAt, linkFitsAt, wellFormed, stepFits}
+use Rattle.reset.proofs.Views.{zeros-at, station-set, station-set-link}
+use Rattle.reset.proofs.StepLaws.{of-step}
+use Rattle.reset.proofs.Keeps.{neighbour-small}
+use Rattle.reset.proofs.Runs.{initial-station, initial-link}
+use Rattle.reset.proofs.FormedParts.{counts-of, counts-fit, zeros-counts, zeros-sent, none-marks, Fits, fits-of, fits-back, fits-entered, fits-sending, fits-receiving, fits-req, fits-done, Shaped, shaped-of, shape-fits, ItemsFit, Parts, parts-station, parts-link, parts-put, parts-begin, parts-turn}
+
+-- ---- the tests of a whole state as facts
+pub record Formed (c : Config) (s : State vector) : Type 0 where
+  pub accepted : (wellMade c && networkRules c) ≡ true
+  pub shape : shapeFits s ≡ true
+  pub station : (i : ℕ) → i < 8 → stationFits c i (stationAt s i) ≡ true
+  pub link : (i j : ℕ) → i < 8 → j < 8 → linkFits c i j (linkAt s i j) ≡ true
+
+module _ (c : Config) (s : State vector) where
+  pub formed-of : wellFormed c s ≡ true → Formed c s
+  unfolding wellFormed
+  formed-of h =
+      let p = both (wellMade c && networkRules c) _ h in
+      let q = both (shapeFits s) _ (p .1) in
+      let r = both (every 8 (stationFitsAt c s)) _ (q .1) in
+      record {
+        accepted = p .0;
+        shape = q .0;
+        station = λ i l. every-at 8 (stationFitsAt c s) i (r .0) l;
+        link = λ i j il jl. every-at 8 (linkFitsAt c s i) j (every-at 8 (λ (i : ℕ). every 8 (linkFitsAt c s i)) i (r .1) il) jl;
+      }
+
+  pub formed-back : Formed c s → wellFormed c s ≡ true
+  unfolding wellFormed
+  formed-back h =
+      join (wellMade c && networkRules c) _ (h .accepted)
+      (join (shapeFits s) _ (h .shape)
+      (join (every 8 (stationFitsAt c s)) _ (every-of 8 (stationFitsAt c s) (h .station))
+      (every-of 8 (λ (i : ℕ). every 8 (linkFitsAt c s i)) (λ i il. every-of 8 (linkFitsAt c s i) (λ j jl. h .link i j il jl)))))
+
+  -- number 9's test
+  record Bounds : Type 0 where
+    phase : (i : ℕ) → i < 8 → stationAt s i .phase ≤ 999999
+    count : (i k : ℕ) → i < 8 → k < 8 → getD (stationAt s i .time) k 0 ≤ c .t
+    link : (i j : ℕ) → i < 8 → j < 8 → length (linkAt s i j) ≤ places c i j
+
+  bounds-of : inBounds c s ≡ true → Bounds
+  unfolding inBounds
+  bounds-of h =
+      let p = both (every 8 (phaseBounded s)) _ h in
+      let q = both (every 8 (λ (i : ℕ). every 8 (countBounded c s i))) _ (p .1) in
+      record {
+        phase = λ i l. leb-true _ _ (every-at 8 (phaseBounded s) i (p .0) l);
+        count = λ i k il kl. leb-true _ _ (every-at 8 (countBounded c s i) k (every-at 8 (λ (i : ℕ). every 8 (countBounded c s i)) i (q .0) il) kl);
+        link = λ i j il jl. leb-true _ _ (every-at 8 (linkBounded c s i) j (every-at 8 (λ (i : ℕ). every 8 (linkBounded c s i)) i (q .1) il) jl);
+      }
+
+-- ---- the items of a link
+module _ (c : Config) (i j : ℕ) (q : List (Item vector)) where
+  items-of : linkFits c i j q ≡ true → ItemsFit c q
+  unfolding linkFits
+  items-of h k = past q k (every-at (length q) (itemFitsAt c q) k (both (leb (length q) (places c i j)) _ h .1))
+    where
+      past : (q : List (Item vector)) (k : ℕ) → (k < length q → itemFits c (getD q k resetReq) ≡ true) → itemFits c (getD q k resetReq) ≡ true
+      past [] k f = refl
+      past (x ∷ q) zero f = f (omega arith)
+      past (x ∷ q) (suc k) f = past q k (λ l. f (omega arith))
+
+  link-fits : length q ≤ places c i j → ItemsFit c q → linkFits c i j q ≡ true
+  unfolding linkFits
+  link-fits l f = join (leb (length q) (places c i j)) _ (le-leb _ _ l) (every-of (length q) (itemFitsAt c q) (λ k kl. f k))
+
+-- ---- a step of station i, from a well-formed state
+module _ (c : Config) (s : State vector) (h : Formed c s) where
+  header : Rules c
+  header = let p = both (wellMade c) _ (h .accepted) in rules c (p .0) (p .1)
+
+  module _ (i : ℕ) (si : isStation c i ≡ true) where
+    below : i < 8
+    unfolding isStation
+    below = omega (arith, ltb-true i (c .n) si, header .small)
+
+    parts : Parts c i s
+    parts =
+        record {
+          shape = shaped-of s (h .shape);
+          here = fits-of c i (stationAt s i) (h .station i below);
+          others = λ k l n. h .station k l;
+          items = λ a b al bl. items-of c a b (linkAt s a b) (h .link a b al bl);
+        }
+
+    -- the state after it is in bounds
+    closed : (s′ : State vector) → Parts c i s′ → inBounds c s′ ≡ true → Formed c s′
+    closed s′ p b =
+        record {
+          accepted = h .accepted;
+          shape = shape-fits s′ (p .shape);
+          station = λ k l. at k l (ℕ-discrete k i);
+          link = λ a d al dl. link-fits c a d (linkAt s′ a d) (bounds-of c s′ b .link a d al dl) (p .items a d al dl);
+        }
+      where
+        at : (k : ℕ) → k < 8 → Dec (k ≡ i) → stationFits c k (stationAt s′ k) ≡ true
+        at k l (yes e) =
+            let z = bounds-of c s′ b in
+            rw e
+            (fits-back c i (stationAt s′ i) (c .t) (rw si) (rw si) (rw si (le-leb _ _ (z .phase i below))) (λ d dl. z .count i d below dl) (p .here))
+        at k l (no n) = p .others k l n
+
+    formed-enter : (g : ℕ) → stationAt s i .own < allowanceAt c (stationAt s i .phase) i → inBounds c (doEnter i g s .after) ≡ true → Formed c (doEnter i g s .after)
+    formed-enter g l b = closed _ (parts-station c i below s _ (fits-entered c i _ (parts .here) below si l) parts) b
+
+    module _ (j : ℕ) (ij : neighbours c i j ≡ true) where
+      near : j < 8
+      near = neighbour-small c header i j ij
+
+      -- the message sent has the sender's counts after the step
+      formed-send : (g : ℕ) → registerFits g ≡ true → sentTo (stationAt s i) j < limitAt c (stationAt s i .phase) i j
+          → inBounds c (doSend i j g s .after) ≡ true → Formed c (doSend i j g s .after)
+      formed-send g r l b =
+          let x = sending i j (stationAt s i) in
+          let f = fits-sending c i _ (parts .here) below si j near l in
+          let e : stationAt (doSend i j g s .after) i ≡ x = station-set-link _ i j _ i ∙ station-set s i x in
+          let u : (k : ℕ) → k < 8 → getD (x .time) k 0 ≤ c .t = λ k kl. rw e at (bounds-of c _ b .count i k below kl) in
+          let m : itemFits c (message (x .time) g) ≡ true = join (countsFit c (c .t) (x .time)) _ (counts-fit c (x .time) (c .t) (f .counts) u) r in
+          closed _ (parts-put c i below _ m _ j near (parts-station c i below s x f parts)) b
+
+      -- the rest of a link, of which the first item is taken
+      rest : (y : Item vector) (q : List (Item vector)) → linkAt s j i ≡ y ∷ q → ItemsFit c (y ∷ q)
+      rest y q e = rw e at (parts .items j i near below)
+
+      formed-receive : (w : List ℕ) (g : ℕ) (q : List (Item vector)) → linkAt s j i ≡ message w g ∷ q
+          → inBounds c (doReceive i j w g q s .after) ≡ true → Formed c (doReceive i j w g q s .after)
+      formed-receive w g q e b =
+          let z = rest (message w g) q e in
+          let k = counts-of c w (c .t) (both (countsFit c (c .t) w) _ (z zero) .0) in
+          closed _ (parts-link c i below _ j i q near below (λ m. z (suc m)) (parts-station c i below s _ (fits-receiving c i _ (parts .here) below si j w k) parts)) b
+
+      formed-mark : (x : Station vector) (y : Item vector) (q : List (Item vector)) → linkAt s j i ≡ y ∷ q → Fits c i x
+          → inBounds c (doMark c i j x q s .after) ≡ true → Formed c (doMark c i j x q s .after)
+      formed-mark x y q e f b =
+          closed _ (parts-turn c i below _ (parts-link c i below _ j i q near below (λ m. rest y q e (suc m)) (parts-station c i below s x f parts))) b
+
+    formed-start : inBounds c (doStart c i s .after) ≡ true → Formed c (doStart c i s .after)
+    formed-start b = closed _ (parts-turn c i below _ (parts-begin c i below s parts)) b
+
+  formed-step : (p : Step) → stepFits p ≡ true → Formed c (step c s p .after)
+  formed-step =
+      of-step c s (λ p o. stepFits p ≡ true → Formed c (o .after))
+      (record {
+        refusal = λ p k z. h;
+        own = λ i g si l b z. formed-enter i si g l b;
+        sent = λ i j g si ij m l b z. formed-send i si j ij g z l b;
+        received = λ i j w g q si ij e b z. formed-receive i si j ij w g q e b;
+        req = λ i j q si ij e b z. formed-mark i si j ij _ resetReq q e (fits-req c i _ (parts i si .here) j (near i si j ij) ij) b;
+        done = λ i j q si ij e b z. formed-mark i si j ij _ resetDone q e (fits-done c i _ (parts i si .here) j (near i si j ij) ij) b;
+        started = λ i si m l b z. formed-start i si b;
+      })
+
+-- ---- the initial network
+module _ (c : Config) where
+  initial-fits : (i : ℕ) → Fits c i (initialStation vector c i)
+  initial-fits i =
+      record {
+        counts = zeros-counts c;
+        own = omega arith;
+        sent = zeros-sent c i 0;
+        reqs = none-marks c i;
+        dones = record { eight = upto-length 8 (neighbours c i); none-far = λ j l e. upto-at 8 (neighbours c i) j false l ∙ e };
+      }
+
+  initial-shape : Shaped (initial vector c)
+  unfolding initial
+  initial-shape =
+      record {
+        stations8 = upto-length 8 (initialStation vector c);
+        links8 = refl;
+        row8 = λ a l. row 8 a l;
+      }
+    where
+      row : (n a : ℕ) → a < n → length (getD (replicate n (replicate {A = List (Item vector)} 8 [])) a []) ≡ 8
+      row zero a l = absurd (omega arith)
+      row (suc n) zero l = refl
+      row (suc n) (suc a) l = row n a (omega arith)
+
+  initial-formed : (wellMade c && networkRules c) ≡ true → Formed c (initial vector c)
+  initial-formed h =
+      record {
+        accepted = h;
+        shape = shape-fits _ initial-shape;
+        station = λ i l.
+            rw (initial-station vector c i l)
+            (fits-back c i (initialStation vector c i) _ refl (or-true (isStation c i)) (le-leb 0 (ofStation c i 999999) (omega arith)) (λ k kl. rw zeros-at (omega arith)) (initial-fits i));
+        link = λ i j il jl. rw initial-link (link-fits c i j [] (omega arith) (λ k. refl));
+      }
+    where
+      or-true : (a : Bool) → (a || true) ≡ true
+      or-true true = refl
+      or-true false = refl
+
+-- ---- the theorems
+-- a list of steps whose register numbers fit
+abbrev pub StepsFit : List Step → Type 0
+StepsFit [] = Unit {0}
+StepsFit (p ∷ ps) = (stepFits p ≡ true) × StepsFit ps
+
+pub initial-well-formed : (c : Config) → wellMade c ≡ true → networkRules c ≡ true → wellFormed c (initial vector c) ≡ true
+initial-well-formed c h r = formed-back c _ (initial-formed c (join (wellMade c) _ h r))
+
+pub step-well-formed : (c : Config) (s : State vector) → wellFormed c s ≡ true → (p : Step) → stepFits p ≡ true → wellFormed c (step c s p .after) ≡ true
+step-well-formed c s h p f = formed-back c _ (formed-step c s (formed-of c s h) p f)
+
+pub run-well-formed : (c : Config) (s : State vector) → wellFormed c s ≡ true → (ps : List Step) → StepsFit ps → wellFormed c (run c s ps) ≡ true
+run-well-formed c s h [] f = h
+run-well-formed c s h (p ∷ ps) f = run-well-formed c (step c s p .after) (step-well-formed c s h p (f .0)) ps (f .1)

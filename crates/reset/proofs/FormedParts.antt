@@ -1,0 +1,328 @@
+-- Well formed, part by part: the tests as facts, and how each change of a state keeps them. Number 9's bounds are apart, for they are tested of the state
+-- after a step, not of those on the way. Assumes nothing.
+use Prim.Native.Nat.{ℕ, zero, suc, _≤_, _<_}
+use mathlib.Core.Path.{_≡_, refl, sym, ap, _∙_}
+use mathlib.Core.Logic.{_≢_}
+use mathlib.Core.List.{List, [], _∷_, _++_}
+use mathlib.Core.Bool.{Bool, true, false, not, cond, _&&_, _||_, true≢false}
+use native.Mathlib.Omega.{arith}
+use native.Mathlib.Decide.{ℕ-discrete}
+use lib.Dec.{eqb, leb}
+use lib.ListN.{getD, length}
+use borrow.Author.Tests.{eqb-true, eq-eqb, leb-true, le-leb, not-true}
+use Rattle.codec.specs.Every.{every}
+use Rattle.codec.specs.Put.{put}
+use Rattle.codec.proofs.EveryLaws.{both, join, every-at, every-of}
+use Rattle.codec.proofs.PutLaws.{put-same, put-other, put-keeps}
+use Rattle.clock.specs.Timestamp.{zeros, merged}
+use Rattle.clock.proofs.MergeLaws.{merged-length, merged-at}
+use Rattle.reset.specs.Config.{Config, isStation, neighbours, limitAt, allowanceAt}
+use Rattle.reset.specs.Clock.{vector}
+use Rattle.reset.specs.State.{Item, resetReq, resetDone, Station, State, noneSeen, stationAt, linkAt, reqSeen, doneSeen, sentTo, setStation, setLink, putOn, putLinked, putFirst, putOnAll}
+use Rattle.reset.specs.Steps.{begun, renewed, woken, beginReset, renew, wake, Rule, ruleA, ruleB, ruleC, noRule, ruleOf, apply, turnOnce, turn, entered, sending, receiving, withReq, withDone}
+use Rattle.reset.specs.WellFormed.{ofStation, countFits, countsFit, modeFits, phaseFits, ownFits, sentFitsTo, sentFits, marksFitFrom, marksFit, stationFits, itemFits, rowLong, shapeFits}
+use Rattle.reset.proofs.Views.{zeros-at, none-at, station-set, station-set-other, link-set-station, station-set-link, link-set, link-set-row, link-set-col}
+
+-- ---- tests
+or-second : (a b : Bool) → (a || b) ≡ true → a ≡ false → b ≡ true
+or-second true b h e = absurd (true≢false e)
+or-second false b h e = h
+
+or-by : (a b : Bool) → (a ≡ false → b ≡ true) → (a || b) ≡ true
+or-by true b f = refl
+or-by false b f = f refl
+
+-- ---- counts: eight, and 0 for stations n and above
+pub record Counts (c : Config) (v : List ℕ) : Type 0 where
+  pub eight : length v ≡ 8
+  pub none-above : (k : ℕ) → k < 8 → isStation c k ≡ false → getD v k 0 ≡ 0
+
+module _ (c : Config) (v : List ℕ) where
+  pub counts-of : (b : ℕ) → countsFit c b v ≡ true → Counts c v
+  unfolding countsFit
+  counts-of b h =
+      let p = both (eqb (length v) 8) _ h in
+      record {
+        eight = eqb-true _ _ (p .0);
+        none-above = λ k l z. let q : leb (getD v k 0) (ofStation c k b) ≡ true = every-at 8 (countFits c b v) k (p .1) l in
+            let r : getD v k 0 ≤ 0 = leb-true _ _ (rw z at q) in omega arith;
+      }
+
+  pub counts-fit : (b : ℕ) → Counts c v → ((k : ℕ) → k < 8 → getD v k 0 ≤ b) → countsFit c b v ≡ true
+  unfolding countsFit
+  counts-fit b h u =
+      join (eqb (length v) 8) _ (eq-eqb _ _ (h .eight)) (every-of 8 (countFits c b v) (λ k l. go k l (isStation c k) refl))
+    where
+      go : (k : ℕ) → k < 8 → (t : Bool) → isStation c k ≡ t → leb (getD v k 0) (ofStation c k b) ≡ true
+      go k l true e = rw e (le-leb _ _ (u k l))
+      go k l false e = rw (e, h .none-above k l e)
+
+pub zeros-counts : (c : Config) → Counts c zeros
+unfolding zeros
+zeros-counts c = record { eight = refl; none-above = λ k l e. zeros-at k }
+
+-- i's own count replaced
+own-counts : (c : Config) (i : ℕ) → isStation c i ≡ true → (v : List ℕ) (b : ℕ) → i < 8 → Counts c v → Counts c (put 0 v i b)
+own-counts c i si v b il h =
+    record {
+      eight = put-keeps 0 v i b (omega (arith, h .eight)) ∙ h .eight;
+      none-above = λ k l e. put-other 0 v i k b (λ p. true≢false (sym si ∙ ap (isStation c) (sym p) ∙ e)) ∙ h .none-above k l e;
+    }
+
+merged-counts : (c : Config) (v w : List ℕ) → Counts c v → Counts c w → Counts c (merged v w)
+merged-counts c v w h g =
+    record {
+      eight = merged-length v w ∙ h .eight;
+      none-above = λ k l e. merged-at v w k (omega (arith, h .eight)) ∙ omega (arith, h .none-above k l e, g .none-above k l e);
+    }
+
+-- ---- messages sent: eight numbers within limits
+pub record Sent (c : Config) (i p : ℕ) (l : List ℕ) : Type 0 where
+  pub eight : length l ≡ 8
+  pub within : (j : ℕ) → j < 8 → getD l j 0 ≤ limitAt c p i j
+
+pub zeros-sent : (c : Config) (i p : ℕ) → Sent c i p zeros
+unfolding zeros
+zeros-sent c i p = record { eight = refl; within = λ j l. rw zeros-at (omega arith) }
+
+-- one more to j
+sent-more : (c : Config) (i p : ℕ) (l : List ℕ) (j : ℕ) → j < 8 → getD l j 0 < limitAt c p i j → Sent c i p l → Sent c i p (put 0 l j (suc (getD l j 0)))
+sent-more c i p l j jl m h =
+    record { eight = put-keeps 0 l j _ (omega (arith, h .eight)) ∙ h .eight; within = λ k kl. at k kl (ℕ-discrete k j) }
+  where
+    at : (k : ℕ) → k < 8 → Dec (k ≡ j) → getD (put 0 l j (suc (getD l j 0))) k 0 ≤ limitAt c p i k
+    at k kl (yes e) = rw (e, put-same) m
+    at k kl (no e) = rw (put-other 0 l j k (suc (getD l j 0)) e) (h .within k kl)
+
+-- ---- marks: eight, none for a non-neighbour
+pub record Marks (c : Config) (i : ℕ) (l : List Bool) : Type 0 where
+  pub eight : length l ≡ 8
+  pub none-far : (j : ℕ) → j < 8 → neighbours c i j ≡ false → getD l j false ≡ false
+
+pub none-marks : (c : Config) (i : ℕ) → Marks c i noneSeen
+unfolding noneSeen
+none-marks c i = record { eight = refl; none-far = λ j l e. none-at j }
+
+-- one more, of the neighbour j
+marks-more : (c : Config) (i : ℕ) (l : List Bool) (j : ℕ) → j < 8 → neighbours c i j ≡ true → Marks c i l → Marks c i (put false l j true)
+marks-more c i l j jl ij h =
+    record {
+      eight = put-keeps false l j true (omega (arith, h .eight)) ∙ h .eight;
+      none-far = λ k kl e. put-other false l j k true (λ p. true≢false (sym ij ∙ ap (neighbours c i) (sym p) ∙ e)) ∙ h .none-far k kl e;
+    }
+
+-- ---- the record of station i, but for its bounds
+pub record Fits (c : Config) (i : ℕ) (x : Station vector) : Type 0 where
+  pub counts : Counts c (x .time)
+  pub own : x .own ≤ allowanceAt c (x .phase) i
+  pub sent : Sent c i (x .phase) (x .sent)
+  pub reqs : Marks c i (x .reqs)
+  pub dones : Marks c i (x .dones)
+
+module _ (c : Config) (i : ℕ) (x : Station vector) where
+  station-parts : stationFits c i x ≡ true
+      → (countsFit c (ofStation c i (c .t)) (x .time) ≡ true) × (ownFits c i x ≡ true) × (sentFits c i x ≡ true) × (marksFit c i x ≡ true)
+  unfolding stationFits
+  station-parts h =
+      let p = both (countsFit c (ofStation c i (c .t)) (x .time)) _ h in
+      let q = both (phaseFits c i x) _ (both (modeFits c i x) _ (p .1) .1) in
+      let r = both (ownFits c i x) _ (q .1) in
+      let z = both (sentFits c i x) _ (r .1) in
+      (p .0, r .0, z .0, z .1)
+
+  pub fits-of : stationFits c i x ≡ true → Fits c i x
+  unfolding sentFits marksFit
+  fits-of h =
+      let p = station-parts h in
+      let s = both (eqb (length (x .sent)) 8) _ (p .2) in
+      let r = both (eqb (length (x .reqs)) 8) _ (p .3) in
+      let d = both (eqb (length (x .dones)) 8) _ (r .1) in
+      let m : (j : ℕ) → j < 8 → neighbours c i j ≡ false → (not (reqSeen x j) ≡ true) × (not (doneSeen x j) ≡ true)
+      = λ j l e. both (not (reqSeen x j)) _ (or-second (neighbours c i j) _ (every-at 8 (marksFitFrom c i x) j (d .1) l) e) in
+      record {
+        counts = counts-of c (x .time) _ (p .0);
+        own = leb-true _ _ (p .1);
+        sent = record { eight = eqb-true _ _ (s .0); within = λ j l. leb-true _ _ (every-at 8 (sentFitsTo c i x) j (s .1) l) };
+        reqs = record { eight = eqb-true _ _ (r .0); none-far = λ j l e. not-true _ (m j l e .0) };
+        dones = record { eight = eqb-true _ _ (d .0); none-far = λ j l e. not-true _ (m j l e .1) };
+      }
+
+  -- with the bounds
+  pub fits-back : (b : ℕ) → ofStation c i (c .t) ≡ b → modeFits c i x ≡ true → phaseFits c i x ≡ true → ((k : ℕ) → k < 8 → getD (x .time) k 0 ≤ b)
+      → Fits c i x → stationFits c i x ≡ true
+  unfolding stationFits sentFits marksFit
+  fits-back b e m p u h =
+      join (countsFit c (ofStation c i (c .t)) (x .time)) _ (rw e (counts-fit c (x .time) b (h .counts) u))
+      (join (modeFits c i x) _ m
+      (join (phaseFits c i x) _ p
+      (join (ownFits c i x) _ (le-leb _ _ (h .own))
+      (join (eqb (length (x .sent)) 8 && every 8 (sentFitsTo c i x)) _
+      (join (eqb (length (x .sent)) 8) _ (eq-eqb _ _ (h .sent .eight)) (every-of 8 (sentFitsTo c i x) (λ j l. le-leb _ _ (h .sent .within j l))))
+      (join (eqb (length (x .reqs)) 8) _ (eq-eqb _ _ (h .reqs .eight))
+      (join (eqb (length (x .dones)) 8) _ (eq-eqb _ _ (h .dones .eight))
+      (every-of 8 (marksFitFrom c i x) (λ j l. or-by (neighbours c i j) _ (λ z. rw (h .reqs .none-far j l z, h .dones .none-far j l z))))))))))
+
+-- ---- how the record changes
+module _ (c : Config) (i : ℕ) (x : Station vector) (h : Fits c i x) where
+  module _ (il : i < 8) (si : isStation c i ≡ true) where
+    pub fits-entered : x .own < allowanceAt c (x .phase) i → Fits c i (entered i x)
+    fits-entered l = record { counts = own-counts c i si (x .time) _ il (h .counts); own = l; sent = h .sent; reqs = h .reqs; dones = h .dones }
+
+    pub fits-sending : (j : ℕ) → j < 8 → sentTo x j < limitAt c (x .phase) i j → Fits c i (sending i j x)
+    fits-sending j jl l =
+        record {
+          counts = own-counts c i si (x .time) _ il (h .counts);
+          own = h .own;
+          sent = sent-more c i (x .phase) (x .sent) j jl l (h .sent);
+          reqs = h .reqs;
+          dones = h .dones;
+        }
+
+    pub fits-receiving : (j : ℕ) (w : List ℕ) → Counts c w → Fits c i (receiving i j w x)
+    fits-receiving j w g =
+        record {
+          counts = own-counts c i si (merged (x .time) w) _ il (merged-counts c (x .time) w (h .counts) g);
+          own = h .own;
+          sent = h .sent;
+          reqs = h .reqs;
+          dones = h .dones;
+        }
+
+  module _ (j : ℕ) (jl : j < 8) (ij : neighbours c i j ≡ true) where
+    pub fits-req : Fits c i (withReq j x)
+    fits-req = record { counts = h .counts; own = h .own; sent = h .sent; reqs = marks-more c i (x .reqs) j jl ij (h .reqs); dones = h .dones }
+
+    pub fits-done : Fits c i (withDone j x)
+    fits-done = record { counts = h .counts; own = h .own; sent = h .sent; reqs = h .reqs; dones = marks-more c i (x .dones) j jl ij (h .dones) }
+
+  fits-begun : Fits c i (begun x)
+  fits-begun = record { counts = h .counts; own = h .own; sent = h .sent; reqs = h .reqs; dones = none-marks c i }
+
+  fits-renewed : Fits c i (renewed x)
+  fits-renewed = record { counts = zeros-counts c; own = omega arith; sent = zeros-sent c i _; reqs = none-marks c i; dones = h .dones }
+
+  fits-woken : Fits c i (woken x)
+  fits-woken = record { counts = h .counts; own = h .own; sent = h .sent; reqs = h .reqs; dones = h .dones }
+
+-- ---- eight stations, eight rows of eight links
+pub record Shaped (s : State vector) : Type 0 where
+  pub stations8 : length (s .stations) ≡ 8
+  pub links8 : length (s .links) ≡ 8
+  pub row8 : (a : ℕ) → a < 8 → length (getD (s .links) a []) ≡ 8
+
+pub shaped-of : (s : State vector) → shapeFits s ≡ true → Shaped s
+unfolding shapeFits
+shaped-of s h =
+    let p = both (eqb (length (s .stations)) 8) _ h in
+    let q = both (eqb (length (s .links)) 8) _ (p .1) in
+    record {
+      stations8 = eqb-true _ _ (p .0);
+      links8 = eqb-true _ _ (q .0);
+      row8 = λ a l. eqb-true _ _ (every-at 8 (rowLong s) a (q .1) l);
+    }
+
+pub shape-fits : (s : State vector) → Shaped s → shapeFits s ≡ true
+unfolding shapeFits
+shape-fits s h =
+    join (eqb (length (s .stations)) 8) _ (eq-eqb _ _ (h .stations8))
+    (join (eqb (length (s .links)) 8) _ (eq-eqb _ _ (h .links8)) (every-of 8 (rowLong s) (λ a l. eq-eqb _ _ (h .row8 a l))))
+
+shaped-station : (s : State vector) (i : ℕ) (x : Station vector) → i < 8 → Shaped s → Shaped (setStation s i x)
+unfolding setStation
+shaped-station s i x il h =
+    record { stations8 = put-keeps _ (s .stations) i x (omega (arith, h .stations8)) ∙ h .stations8; links8 = h .links8; row8 = h .row8 }
+
+shaped-link : (s : State vector) (i j : ℕ) (q : List (Item vector)) → i < 8 → j < 8 → Shaped s → Shaped (setLink s i j q)
+unfolding setLink
+shaped-link s i j q il jl h =
+    record {
+      stations8 = h .stations8;
+      links8 = put-keeps [] (s .links) i _ (omega (arith, h .links8)) ∙ h .links8;
+      row8 = λ a al. at a al (ℕ-discrete a i);
+    }
+  where
+    at : (a : ℕ) → a < 8 → Dec (a ≡ i) → length (getD (put [] (s .links) i (put [] (getD (s .links) i []) j q)) a []) ≡ 8
+    at a al (yes p) = rw (p, put-same) (put-keeps [] (getD (s .links) i []) j q (omega (arith, h .row8 i il)) ∙ h .row8 i il)
+    at a al (no p) = rw (put-other [] (s .links) i a (put [] (getD (s .links) i []) j q) p) (h .row8 a al)
+
+-- ---- the items of a link
+abbrev pub ItemsFit : Config → List (Item vector) → Type 0
+ItemsFit c q = (k : ℕ) → itemFits c (getD q k resetReq) ≡ true
+
+items-more : (c : Config) (q : List (Item vector)) (y : Item vector) → ItemsFit c q → itemFits c y ≡ true → ItemsFit c (q ++ (y ∷ []))
+items-more c [] y h e zero = e
+items-more c [] y h e (suc k) = refl
+items-more c (x ∷ q) y h e zero = h zero
+items-more c (x ∷ q) y h e (suc k) = items-more c q y (λ m. h (suc m)) e k
+
+-- ---- a state on the way through a step of station i: every part but the bounds of station i and of the links
+pub record Parts (c : Config) (i : ℕ) (s : State vector) : Type 0 where
+  pub shape : Shaped s
+  pub here : Fits c i (stationAt s i)
+  pub others : (k : ℕ) → k < 8 → k ≢ i → stationFits c k (stationAt s k) ≡ true
+  pub items : (a b : ℕ) → a < 8 → b < 8 → ItemsFit c (linkAt s a b)
+
+module _ (c : Config) (i : ℕ) (il : i < 8) where
+  pub parts-station : (s : State vector) (x : Station vector) → Fits c i x → Parts c i s → Parts c i (setStation s i x)
+  parts-station s x f h =
+      record {
+        shape = shaped-station s i x il (h .shape);
+        here = rw station-set f;
+        others = λ k l n. rw (station-set-other s i x k n) (h .others k l n);
+        items = λ a b al bl. rw link-set-station (h .items a b al bl);
+      }
+
+  pub parts-link : (s : State vector) (a b : ℕ) (q : List (Item vector)) → a < 8 → b < 8 → ItemsFit c q → Parts c i s → Parts c i (setLink s a b q)
+  parts-link s a b q al bl f h =
+      record {
+        shape = shaped-link s a b q al bl (h .shape);
+        here = rw station-set-link (h .here);
+        others = λ k l n. rw station-set-link (h .others k l n);
+        items = λ a′ b′ al′ bl′. at a′ b′ al′ bl′ (ℕ-discrete a′ a) (ℕ-discrete b′ b);
+      }
+    where
+      at : (a′ b′ : ℕ) → a′ < 8 → b′ < 8 → Dec (a′ ≡ a) → Dec (b′ ≡ b) → ItemsFit c (linkAt (setLink s a b q) a′ b′)
+      at a′ b′ al′ bl′ (yes p) (yes r) = rw (p, r, link-set) f
+      at a′ b′ al′ bl′ (yes p) (no r) = rw (p, link-set-col s a b q b′ r) (h .items a b′ al bl′)
+      at a′ b′ al′ bl′ (no p) d = rw (link-set-row s a b q a′ b′ p) (h .items a′ b′ al′ bl′)
+
+  module _ (y : Item vector) (f : itemFits c y ≡ true) where
+    pub parts-put : (s : State vector) (b : ℕ) → b < 8 → Parts c i s → Parts c i (putOn s i b y)
+    parts-put s b bl h = parts-link s i b _ il bl (items-more c (linkAt s i b) y (h .items i b il bl) f) h
+
+    parts-linked : (s : State vector) (b : ℕ) → b < 8 → Parts c i s → Parts c i (putLinked c s i b y)
+    unfolding putLinked
+    parts-linked s b bl h = go (neighbours c i b)
+      where
+        go : (t : Bool) → Parts c i (cond t (putOn s i b y) s)
+        go true = parts-put s b bl h
+        go false = h
+
+    parts-first : (m : ℕ) → m ≤ 8 → (s : State vector) → Parts c i s → Parts c i (putFirst m c s i y)
+    unfolding putFirst
+    parts-first zero l s h = h
+    parts-first (suc m) l s h = parts-linked (putFirst m c s i y) m (omega arith) (parts-first m (omega arith) s h)
+
+    parts-all : (s : State vector) → Parts c i s → Parts c i (putOnAll c s i y)
+    unfolding putOnAll
+    parts-all s h = parts-first 8 (omega arith) s h
+
+  -- begin and the reset rules
+  pub parts-begin : (s : State vector) → Parts c i s → Parts c i (beginReset c i s)
+  unfolding beginReset
+  parts-begin s h = parts-all resetReq refl _ (parts-station s _ (fits-begun c i _ (h .here)) h)
+
+  parts-apply : (s : State vector) → Parts c i s → (r : Rule) → Parts c i (apply c i s r)
+  unfolding renew wake
+  parts-apply s h ruleA = parts-all resetDone refl _ (parts-station s _ (fits-renewed c i _ (h .here)) h)
+  parts-apply s h ruleB = parts-station s _ (fits-woken c i _ (h .here)) h
+  parts-apply s h ruleC = parts-begin s h
+  parts-apply s h noRule = h
+
+  parts-once : (s : State vector) → Parts c i s → Parts c i (turnOnce c i s)
+  unfolding turnOnce
+  parts-once s h = parts-apply s h (ruleOf c i (stationAt s i))
+
+  pub parts-turn : (s : State vector) → Parts c i s → Parts c i (turn c i s)
+  unfolding turn
+  parts-turn s h = parts-once _ (parts-once _ (parts-once s h))

@@ -1,0 +1,16 @@
+pub mod Progress
+pub mod Views
+pub mod TurnLaws
+pub mod StepLaws
+pub mod ReachLaws
+pub mod ConfigLaws
+pub mod Changes
+pub mod Flow
+pub mod Invariant
+pub mod Keeps
+pub mod Messages
+pub mod Summary
+pub mod Runs
+pub mod Coherent
+pub mod FormedParts
+pub mod Formed

@@ -1,0 +1,200 @@
+-- A send puts one message behind those that wait on its link, a receipt takes the first, a control item moves none; all keep the invariant. Assumes nothing.
+use Prim.Native.Nat.{ℕ, suc, _+_}
+use mathlib.Core.Path.{_≡_, refl, sym, ap, _∙_}
+use mathlib.Core.Logic.{_≢_}
+use mathlib.Core.List.{List, [], _∷_, _++_, append-nil}
+use mathlib.Core.Bool.{Bool, true, false, cond}
+use native.Mathlib.Omega.{arith}
+use native.Mathlib.Decide.{ℕ-discrete}
+use lib.Dec.{eqb}
+use lib.ListN.{getD}
+use borrow.Author.Tests.{eq-eqb, ne-eqb, eqb-true, eqb-false}
+use Rattle.codec.specs.Put.{put}
+use Rattle.codec.proofs.PutLaws.{put-same, put-other}
+use Rattle.reset.specs.Config.{Config, neighbours}
+use Rattle.reset.proofs.ConfigLaws.{Rules}
+use Rattle.reset.specs.Clock.{Clock}
+use Rattle.reset.specs.State.{Mode, normal, mute, standBy, Item, message, resetReq, resetDone, Station, State, stationAt, linkAt, reqSeen, doneSeen, setStation, setLink}
+use Rattle.reset.specs.Steps.{send, recv, entered, sending, maySend, doSend, receiving, doReceive, withReq, withDone}
+use Rattle.reset.proofs.Views.{station-set, station-set-other, link-set-station, station-set-link, link-set, link-set-row, link-set-col}
+use Rattle.reset.proofs.Progress.{muted, target, asked, settled}
+use Rattle.reset.proofs.Changes.{Tagged, tags, waiting, sentOn, firstWith, gotOn}
+use Rattle.reset.proofs.Flow.{Flow, flow-reqs, flow-dones}
+use Rattle.reset.proofs.Invariant.{Carries, Invariant, target-near, phase-near, Kept, Puts, puts-keeps, puts-waiting, puts-still, puts-quiet, Takes, takes-keeps, takes-waiting, takes-still}
+use Rattle.reset.proofs.Keeps.{puts-own}
+
+-- ---- enter
+pub enter-keeps : {K : Clock} (c : Config) → Rules c → (s : State K) → Invariant c s → (i : ℕ) → Kept c s (setStation s i (entered i (stationAt s i)))
+enter-keeps c u s v i =
+    puts-quiet c u i s _ _ v (puts-own c u i s (entered i (stationAt s i)) refl refl refl refl (λ j h e. v .seen i j h e)) (λ b. refl)
+
+-- ---- send
+may-send-unmuted : (m : Mode) (d : Bool) → maySend m d ≡ true → muted m ≡ 0
+may-send-unmuted normal d h = refl
+may-send-unmuted mute d h = let z : _≡_ {A = ℕ} 0 1 = cc in absurd (omega arith)
+may-send-unmuted standBy d h = refl
+
+may-send-seen : (m : Mode) (d : Bool) → maySend m d ≡ true → (m ≡ normal → d ≡ true) → d ≡ true
+may-send-seen normal d h k = k refl
+may-send-seen mute d h k = let z : _≡_ {A = ℕ} 0 1 = cc in absurd (omega arith)
+may-send-seen standBy d h k = h
+
+module _ {K : Clock} (c : Config) (u : Rules c) (s : State K) (v : Invariant c s) (i j g : ℕ) (ij : neighbours c i j ≡ true)
+    (may : maySend (stationAt s i .mode) (doneSeen (stationAt s i) j) ≡ true) where
+  abbrev w : K .Load
+  w = K .load i j (K .tick i (stationAt s i .time))
+
+  abbrev x : Station K
+  x = sending i j (stationAt s i)
+
+  abbrev out : ℕ → List (Item K)
+  out b = cond (eqb j b) (message w g ∷ []) []
+
+  onto-send : (b : ℕ) (t : Bool) → eqb j b ≡ t → linkAt (doSend i j g s .after) i b ≡ linkAt s i b ++ cond t (message w g ∷ []) []
+  onto-send b true e = rw (← eqb-true j b e) (link-set _ i j _ ∙ ap (λ (q : List (Item K)). q ++ (message w g ∷ [])) (link-set-station s i x i j))
+  onto-send b false e =
+      link-set-col _ i j _ b (λ p. eqb-false j b e (sym p)) ∙ link-set-station s i x i b ∙ sym (append-nil (linkAt s i b))
+
+  tail-send : (b : ℕ) (t : Bool) → eqb j b ≡ t
+      → Flow {K = K} (stationAt s b .phase) (target (stationAt s i)) (suc (stationAt s i .phase)) (cond t (message w g ∷ []) []) (target x) (suc (x .phase))
+  tail-send b true e =
+      let k = rw (may-send-seen _ _ may (v .seen i j ij)) at (flow-dones _ _ _ (linkAt s j i) _ _ (v .flow j i (u .both-ways i j ij))) in
+      rw (← eqb-true j b e, may-send-unmuted _ _ may) (omega arith)
+  tail-send b false e = (refl, refl)
+
+  puts-send : Puts c i s (doSend i j g s .after) out
+  puts-send =
+      record {
+        others = λ k n. station-set-link _ i j _ k ∙ station-set-other s i x k n;
+        kept = λ a b n. link-set-row _ i j _ a b n ∙ link-set-station s i x a b;
+        onto = λ b h. onto-send b (eqb j b) refl;
+        up = rw (station-set-link, station-set) (omega arith);
+        head-reqs = rw (station-set-link, station-set) (λ k h. refl);
+        head-dones = rw (station-set-link, station-set) (λ k h. refl);
+        tail = rw (station-set-link, station-set) (λ b h. tail-send b (eqb j b) refl);
+        seen′ = rw (station-set-link, station-set) (λ k h e. v .seen i k h e);
+      }
+
+  pub send-keeps : Invariant c (doSend i j g s .after)
+  send-keeps = puts-keeps c u i s _ out v puts-send
+
+  tag-send : (t : Bool) → cond t (record { phase = stationAt s i .phase; load = w; register = g } ∷ []) [] ≡ tags {K = K} (target (stationAt s i)) (cond t (message w g ∷ []) [])
+  tag-send true =
+      let e : stationAt s i .phase ≡ target (stationAt s i) = omega (arith, may-send-unmuted (stationAt s i .mode) (doneSeen (stationAt s i) j) may) in
+      ap {B = List (Tagged K)} (λ r. record { phase = r; load = w; register = g } ∷ []) e
+  tag-send false = refl
+
+  send-log-at : (a b : ℕ) → neighbours c a b ≡ true → Dec (a ≡ i) → waiting s a b ++ sentOn s a b (send i j g) ≡ waiting (doSend i j g s .after) a b
+  send-log-at a b h (yes p) =
+      rw (p, eq-eqb i i refl, tag-send (eqb j b)) (sym (puts-waiting c u i s _ out v puts-send b (rw p at h) (λ e. u .loopless i (rw (p, e) at h))))
+  send-log-at a b h (no p) =
+      rw (ne-eqb i a (λ e. p (sym e))) (append-nil (waiting s a b) ∙ sym (puts-still c u i s _ out v puts-send a b h p (ℕ-discrete b i)))
+
+  pub send-log : (a b : ℕ) → neighbours c a b ≡ true → waiting s a b ++ sentOn s a b (send i j g) ≡ waiting (doSend i j g s .after) a b
+  send-log a b h = send-log-at a b h (ℕ-discrete a i)
+
+-- ---- recv
+module _ {K : Clock} (c : Config) (u : Rules c) (s : State K) (v : Invariant c s) (i j : ℕ) (ij : neighbours c i j ≡ true) (q : List (Item K)) where
+  -- a new record, and the first item off the link
+  taken-by : (x : Station K) (y : Item K) (taken : List (Tagged K))
+      → linkAt s j i ≡ y ∷ q
+      → x .mode ≡ stationAt s i .mode
+      → x .phase ≡ stationAt s i .phase
+      → ((k : ℕ) → k ≢ j → reqSeen x k ≡ reqSeen (stationAt s i) k)
+      → ((k : ℕ) → k ≢ j → doneSeen x k ≡ doneSeen (stationAt s i) k)
+      → ((k : ℕ) → doneSeen (stationAt s i) k ≡ true → doneSeen x k ≡ true)
+      → (Carries j (stationAt s j) (y ∷ q) (stationAt s i) → tags (asked (stationAt s i) j) (y ∷ q) ≡ taken ++ tags (asked x j) q)
+      → (Carries j (stationAt s j) (y ∷ q) (stationAt s i)
+      → Flow (stationAt s i .phase) (asked x j) (settled x j) q (target (stationAt s j)) (suc (stationAt s j .phase)))
+      → Takes c i j s (setLink (setStation s i x) j i q) y q taken
+  taken-by x y taken held md ph ro dr dm ms mv =
+      record {
+        held = held;
+        left = link-set _ j i q;
+        others = λ k n. station-set-link _ j i q k ∙ station-set-other s i x k n;
+        rows = λ a b n. link-set-row _ j i q a b n ∙ link-set-station s i x a b;
+        cols = λ b n. link-set-col _ j i q b n ∙ link-set-station s i x j b;
+        mode-same = rw (station-set-link, station-set) md;
+        phase-same = rw (station-set-link, station-set) ph;
+        req-other = rw (station-set-link, station-set) ro;
+        done-other = rw (station-set-link, station-set) dr;
+        done-more = rw (station-set-link, station-set) dm;
+        messages = rw (station-set-link, station-set) ms;
+        moved = rw (station-set-link, station-set) mv;
+      }
+
+  -- a message: it lies in the receiver's phase
+  takes-message : (w : K .Load) (g : ℕ) → linkAt s j i ≡ message w g ∷ q
+      → Takes c i j s (doReceive i j w g q s .after) (message w g) q (record { phase = stationAt s i .phase; load = w; register = g } ∷ [])
+  takes-message w g held =
+      taken-by (receiving i j w (stationAt s i)) (message w g) _ held refl refl (λ k n. refl) (λ k n. refl) (λ k d. d)
+      (λ h. let e : asked (stationAt s i) j ≡ stationAt s i .phase = omega arith in
+      ap {B = List (Tagged K)} (λ r. record { phase = r; load = w; register = g } ∷ tags (asked (stationAt s i) j) q) e)
+      (λ h. h .2)
+
+  -- reset_req: it was not seen before
+  takes-req : linkAt s j i ≡ resetReq ∷ q → Takes c i j s (setLink (setStation s i (withReq j (stationAt s i))) j i q) resetReq q []
+  takes-req held =
+      taken-by (withReq j (stationAt s i)) resetReq [] held refl refl (λ k n. put-other false (stationAt s i .reqs) j k true n) (λ k n. refl) (λ k d. d)
+      (λ h. rw (put-same, moved h))
+      (λ h. rw (put-same, ← moved h) (h .1))
+    where
+      moved : Carries j (stationAt s j) (resetReq ∷ q) (stationAt s i) → suc (asked (stationAt s i) j) ≡ stationAt s i .phase + 1
+      moved h =
+          let k = flow-reqs _ _ _ q _ _ (h .1) in
+          let l = target-near c s v i j ij in
+          omega arith
+
+  -- reset_done: it was not seen before
+  seen-more : (l : List Bool) (k : ℕ) → Dec (k ≡ j) → getD l k false ≡ true → getD (put false l j true) k false ≡ true
+  seen-more l k (yes p) d = rw (p, put-same)
+  seen-more l k (no p) d = put-other false l j k true p ∙ d
+
+  takes-done : linkAt s j i ≡ resetDone ∷ q → Takes c i j s (setLink (setStation s i (withDone j (stationAt s i))) j i q) resetDone q []
+  takes-done held =
+      taken-by (withDone j (stationAt s i)) resetDone [] held refl refl (λ k n. refl) (λ k n. put-other false (stationAt s i .dones) j k true n)
+      (λ k d. seen-more (stationAt s i .dones) k (ℕ-discrete k j) d)
+      (λ h. refl)
+      (λ h. rw (put-same, ← moved h) (h .1))
+    where
+      moved : Carries j (stationAt s j) (resetDone ∷ q) (stationAt s i) → suc (settled (stationAt s i) j) ≡ target (stationAt s i) + 1
+      moved h =
+          let k = flow-dones _ _ _ q _ _ (h .1) in
+          let l = phase-near c s v i j ij in
+          omega arith
+
+  -- the message is the first that waits
+  pub receive-keeps : (w : K .Load) (g : ℕ) → linkAt s j i ≡ message w g ∷ q → Invariant c (doReceive i j w g q s .after)
+  receive-keeps w g held = takes-keeps c u i j ij s _ (message w g) q _ v (takes-message w g held)
+
+  receive-log-at : (w : K .Load) (g : ℕ) → linkAt s j i ≡ message w g ∷ q → (a b : ℕ) → neighbours c a b ≡ true → Dec (a ≡ j) → Dec (b ≡ i)
+      → waiting s a b ++ [] ≡ gotOn s a b (recv i j) ++ waiting (doReceive i j w g q s .after) a b
+  receive-log-at w g held a b h (yes p) (yes r) =
+      rw (p, r, eq-eqb i i refl, eq-eqb j j refl)
+      (append-nil (waiting s j i) ∙ takes-waiting c u i j ij s _ (message w g) q _ v (takes-message w g held)
+      ∙ ap (λ (z : List (Item K)). firstWith (stationAt s i .phase) z ++ waiting (doReceive i j w g q s .after) j i) (sym held))
+  receive-log-at w g held a b h (yes p) (no r) =
+      rw (p, eq-eqb j j refl, ne-eqb i b (λ e. r (sym e)))
+      (append-nil (waiting s j b) ∙ sym (takes-still c u i j ij s _ (message w g) q _ v (takes-message w g held) j b (rw p at h) (no r) (λ e f. r f)))
+  receive-log-at w g held a b h (no p) d =
+      rw (ne-eqb j a (λ e. p (sym e)))
+      (append-nil (waiting s a b) ∙ sym (takes-still c u i j ij s _ (message w g) q _ v (takes-message w g held) a b h d (λ e f. p e)))
+
+  pub receive-log : (w : K .Load) (g : ℕ) → linkAt s j i ≡ message w g ∷ q → (a b : ℕ) → neighbours c a b ≡ true
+      → waiting s a b ++ [] ≡ gotOn s a b (recv i j) ++ waiting (doReceive i j w g q s .after) a b
+  receive-log w g held a b h = receive-log-at w g held a b h (ℕ-discrete a j) (ℕ-discrete b i)
+
+  -- a control item moves none
+  unmoved-take : (s′ : State K) (y : Item K) → Takes c i j s s′ y q [] → Kept c s s′
+  unmoved-take s′ y m = record { inv = takes-keeps c u i j ij s s′ y q [] v m; unmoved = λ a b h. go a b h (ℕ-discrete a j) (ℕ-discrete b i) }
+    where
+      go : (a b : ℕ) → neighbours c a b ≡ true → Dec (a ≡ j) → Dec (b ≡ i) → waiting s′ a b ≡ waiting s a b
+      go a b h (yes p) (yes r) = rw (p, r) (sym (takes-waiting c u i j ij s s′ y q [] v m))
+      go a b h (yes p) (no r) = takes-still c u i j ij s s′ y q [] v m a b h (no r) (λ e f. r f)
+      go a b h (no p) d = takes-still c u i j ij s s′ y q [] v m a b h d (λ e f. p e)
+
+  pub req-keeps : linkAt s j i ≡ resetReq ∷ q → Kept c s (setLink (setStation s i (withReq j (stationAt s i))) j i q)
+  req-keeps held = unmoved-take _ resetReq (takes-req held)
+
+  pub done-keeps : linkAt s j i ≡ resetDone ∷ q → Kept c s (setLink (setStation s i (withDone j (stationAt s i))) j i q)
+  done-keeps held = unmoved-take _ resetDone (takes-done held)

@@ -1,9 +1,0 @@
--- The code's answer of rest as the definition's. Assumes nothing.
-use Rattle.calls.specs.Calls.{RestAnswer, yes, no, restRefused}
-use Rattle.rest.specs.declared.RestAnswer.{RestAnswer as CodeAnswer}
-use Rattle.rest.specs.declared.RestAnswer.the-variants.{Yes, No, Refused}
-
-abbrev pub restView : CodeAnswer → RestAnswer
-restView Yes = yes
-restView No = no
-restView (Refused k) = restRefused k

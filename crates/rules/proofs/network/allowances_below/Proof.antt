@@ -1,0 +1,44 @@
+use Prim.Native.Nat.{_-_, _≤_}
+use mathlib.Core.Path.{_≡_, sym}
+use mathlib.Core.Bool.{true}
+use native.Mathlib.Omega.{arith}
+use borrow.Author.Needs.{needs}
+use borrow.Author.Tests.{not-true, not-false}
+use Rattle.codec.specs.Every.{every}
+use Rattle.codec.proofs.EveryLaws.{every-none, every-more, every-fails}
+use Rattle.reset.specs.Config.{allowanceBelow}
+use Rattle.rules.proofs.network.allowances_below.Statement.{statement}
+use Rattle.rules.proofs.network.allowances_below.Tie as tie
+
+abbrev Inv-loop : tie.InvT-loop
+Inv-loop n allowances top i₀ i = (i ≤ 8) × (every i (allowanceBelow n allowances) ≡ true)
+
+abbrev μ-loop : tie.MeasureT-loop
+μ-loop n allowances top i₀ i = 8 - i
+
+loop-holds : tie.Need-loop-holds Inv-loop μ-loop
+loop-holds c = (omega arith, every-none _)
+
+returns : tie.Need-returns Inv-loop μ-loop
+returns c =
+    let l = c .before .before .loop in
+    sym (every-fails 8 _ (l .i) (omega arith) (not-true _ (c .if1 .taken)))
+
+loop-again : tie.Need-loop-again Inv-loop μ-loop
+loop-again c =
+    let l = c .before .before .loop in
+    (omega arith, every-more (l .i) _ (l .inv .1) (not-false _ (c .if1 .left)))
+
+returns-2 : tie.Need-returns-2 Inv-loop μ-loop
+returns-2 c =
+    let e : c .before .loop .i ≡ 8 = omega arith in
+    sym (rw e at (c .before .loop .inv .1))
+
+pub allowances-below-spec : {M : Type 1} → statement M
+allowances-below-spec =
+    tie.close
+    (tie.spec
+    Inv-loop
+    μ-loop
+    loop-holds (λ c. search needs) (λ c. search needs) returns (λ c. search needs)
+    (λ c. search needs) loop-again returns-2)

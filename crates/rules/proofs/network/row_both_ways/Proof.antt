@@ -1,0 +1,49 @@
+use Prim.Native.Nat.{_-_, _≤_}
+use mathlib.Core.Path.{_≡_, sym}
+use mathlib.Core.Bool.{true}
+use native.Mathlib.Omega.{arith}
+use borrow.Author.Needs.{needs}
+use borrow.Author.Tests.{not-true, not-false}
+use Rattle.codec.specs.Every.{every}
+use Rattle.codec.proofs.EveryLaws.{every-none, every-more, every-fails}
+use Rattle.reset.specs.Reach.{limit}
+use Rattle.reset.specs.Config.{bothOrNone}
+use Rattle.rules.proofs.network.row_both_ways.Statement.{statement}
+use Rattle.rules.proofs.network.row_both_ways.Tie as tie
+
+abbrev Inv-loop : tie.InvT-loop
+Inv-loop i limits j₀ j = (j ≤ 8) × (every j (bothOrNone limits i) ≡ true)
+
+abbrev μ-loop : tie.MeasureT-loop
+μ-loop i limits j₀ j = 8 - j
+
+loop-holds : tie.Need-loop-holds Inv-loop μ-loop
+loop-holds c = (omega arith, every-none _)
+
+returns : tie.Need-returns Inv-loop μ-loop
+unfolding limit
+returns c =
+    let l = c .before .before .before .before .loop in
+    sym (every-fails 8 _ (l .j) (omega arith) (not-true _ (c .if1 .taken)))
+
+loop-again : tie.Need-loop-again Inv-loop μ-loop
+unfolding limit
+loop-again c =
+    let l = c .before .before .before .before .loop in
+    (omega arith, every-more (l .j) _ (l .inv .1) (not-false _ (c .if1 .left)))
+
+returns-2 : tie.Need-returns-2 Inv-loop μ-loop
+unfolding limit
+returns-2 c =
+    let e : c .before .loop .j ≡ 8 = omega arith in
+    sym (rw e at (c .before .loop .inv .1))
+
+pub row-both-ways-spec : {M : Type 1} → statement M
+row-both-ways-spec =
+    tie.close
+    (tie.spec
+    Inv-loop
+    μ-loop
+    loop-holds (λ c. search needs) (λ c. search needs) (λ c. search needs) (λ c. search needs)
+    (λ c. search needs) (λ c. search needs) returns (λ c. search needs) (λ c. search needs)
+    loop-again returns-2)

@@ -1,0 +1,52 @@
+use Prim.Native.Nat.{_-_, _≤_}
+use mathlib.Core.Path.{_≡_, sym, ap}
+use mathlib.Core.Bool.{true, not}
+use native.Mathlib.Omega.{arith}
+use borrow.Author.Needs.{needs}
+use borrow.Author.Tests.{eq-eqb, ne-eqb}
+use Rattle.codec.specs.Every.{every}
+use Rattle.codec.proofs.EveryLaws.{every-none, every-more, every-fails}
+use Rattle.reset.specs.Reach.{isSeen, everyReached}
+use Rattle.rules.proofs.SpreadLaws.{not-above}
+use Rattle.rules.proofs.reach.every_reached.Statement.{statement}
+use Rattle.rules.proofs.reach.every_reached.Tie as tie
+
+abbrev Inv-loop : tie.InvT-loop
+Inv-loop n top seen i₀ i = (i ≤ top) × (top ≤ 8) × (every i (isSeen seen) ≡ true)
+
+abbrev μ-loop : tie.MeasureT-loop
+μ-loop n top seen i₀ i = top - i
+
+returns : tie.Need-returns Inv-loop μ-loop
+returns c = sym (not-above _ _ (c .if1 .taken))
+
+loop-holds : tie.Need-loop-holds Inv-loop μ-loop
+loop-holds c = (omega arith, omega arith, every-none _)
+
+returns-2 : tie.Need-returns-2 Inv-loop μ-loop
+unfolding everyReached
+returns-2 c =
+    let l = c .before .before .loop in
+    let e = c .before .before .before .spread .ensures in
+    sym (rw e at (every-fails (c .before .before .before .before .before .args .n) (isSeen (c .before .before .before .spread .result)) (l .i) (omega arith) (ap not (eq-eqb _ _ (c .if2 .taken)))))
+
+loop-again : tie.Need-loop-again Inv-loop μ-loop
+loop-again c =
+    let l = c .before .before .loop in
+    (omega arith, omega arith, every-more (l .i) _ (l .inv .2) (ap not (ne-eqb _ _ (c .if2 .left))))
+
+returns-3 : tie.Need-returns-3 Inv-loop μ-loop
+unfolding everyReached
+returns-3 c =
+    let l = c .before .loop in
+    let e : l .i ≡ c .before .before .before .before .args .n = omega arith in
+    sym (rw (e, c .before .before .spread .ensures) at (l .inv .2))
+
+pub every-reached-spec : {M : Type 1} → statement M
+every-reached-spec =
+    tie.close
+    (tie.spec
+    Inv-loop
+    μ-loop
+    returns (λ c κs. search needs) loop-holds (λ c. search needs) returns-2 (λ c. search needs)
+    (λ c. search needs) loop-again returns-3)

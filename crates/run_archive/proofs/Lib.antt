@@ -1,0 +1,4 @@
+pub mod RangeLaws
+pub mod MadeLaws
+pub mod Told
+pub mod OverAreas

@@ -1,3 +1,0 @@
-pub mod Answers
-pub mod Formed
-pub mod Link

@@ -1,0 +1,37 @@
+-- What receipts and starts do to an area. Assumes nothing.
+use Prim.Native.Nat.{ℕ, _*_, _+_, _<_}
+use mathlib.Core.Path.{_≡_}
+use mathlib.Core.List.{List, _∷_, _++_}
+use mathlib.Core.Bool.{true}
+use lib.ListN.{getD}
+use Rattle.reset.specs.Config.{Config, isStation, neighbours}
+use Rattle.reset.specs.Clock.{vector}
+use Rattle.reset.specs.State.{Item, Station, State, stationAt, linkAt, setStation}
+use Rattle.reset.specs.Steps.{recv, modeAfter, bounded, doMark, receive}
+use Rattle.station.specs.View.{modeView, stationView}
+use Rattle.reset_rules.specs.Turn.{putItems}
+use Rattle.reset_rules.specs.Slots.{itemOf}
+use Rattle.reset_rules.specs.declared.Turned.{Turned}
+use Rattle.area.specs.Layout.{image, linkBytes, configAt, stateAt, test}
+use Rattle.steps.specs.Answers.{steppedOf}
+use Rattle.steps.specs.Formed.{Does}
+use Rattle.steps.specs.declared.answer.Stepped.{Stepped}
+
+-- the record that the rules led to is written, and its control items go on every link out of i; m is the table of limits
+pub record Settles (m : List (List ℕ)) (i : ℕ) (t : Turned) (a : List ℕ) (r : Stepped) (b : List ℕ) : Type 0 where
+  pub answer : r ≡ steppedOf (modeAfter i (modeView (t .station .mode)) (t .station .phase))
+  pub area : (c : Config) (s : State vector) → c .limits ≡ m → a ≡ image c s
+      → b ≡ image c (putItems c (setStation s i (stationView (t .station))) i (itemOf (t .first) ++ itemOf (t .second)))
+
+-- what is known of an area before station i takes the first item of the link from its neighbour j
+pub record Holds (a : List ℕ) (i j : ℕ) : Type 0 where
+  pub tested : test a ≡ true
+  pub station : isStation (configAt a) i ≡ true
+  pub neighbour : neighbours (configAt a) i j ≡ true
+  pub some : 0 < getD (linkBytes a (j * 8 + i)) 0 0
+
+-- the receipt of the control item that marks station i's record as x
+abbrev pub TakesControl : Station vector → ℕ → ℕ → List ℕ → Stepped → List ℕ → Type 0
+TakesControl x i j a r b =
+    (y : Item vector) (q : List (Item vector)) → linkAt (stateAt a) j i ≡ y ∷ q → x .time ≡ stationAt (stateAt a) i .time
+    → receive (configAt a) i j (stateAt a) (y ∷ q) ≡ bounded (configAt a) (stateAt a) (doMark (configAt a) i j x q (stateAt a)) → Does (recv i j) a r b

@@ -1,0 +1,9 @@
+pub mod FieldLaws
+pub mod NumberLaws
+pub mod MadeLaws
+pub mod StartLaws
+pub mod TextLaws
+pub mod Cases
+pub mod LineLaws
+pub mod KeptLaws
+pub mod FillLaws

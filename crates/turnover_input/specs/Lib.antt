@@ -1,0 +1,5 @@
+pub mod Fields
+pub mod Text
+pub mod Parse
+pub mod Lines
+pub mod Kept
