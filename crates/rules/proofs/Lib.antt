@@ -1,3 +1,4 @@
 pub mod SpreadLaws
 pub mod SumLaws
 pub mod Laws
+pub mod EarlierLaws
