@@ -3,11 +3,13 @@ ghost use mathlib.Core.Path.{_≡_};
 ghost use mathlib.Core.List.{[], _∷_, _++_};
 ghost use Prim.Native.Nat.{_+_, _-_, _<_, _≤_};
 ghost use lib.ListN.{length, drop, getD};
+ghost use lib.Dec.{eqb};
+ghost use mathlib.Core.Bool.{_&&_, _||_};
 ghost use Rattle.codec.specs.Num.{bytesOf, numsOf};
-ghost use Rattle.codec.specs.Every.{blank};
+ghost use Rattle.codec.specs.Every.{blank, allZero};
 ghost use Rattle.reset.specs.Clock.{vector};
 ghost use Rattle.reset.specs.State as state;
-ghost use Rattle.link.specs.Image.{Queue, itemView, imageItem, parseItem, itemTest, imageLink, itemAt, itemsTest, sized};
+ghost use Rattle.link.specs.Image.{Queue, itemView, imageItem, parseItem, imageLink, itemAt, itemsTest, sized};
 
 // Kind 1 is a message, 2 reset_req, 3 reset_done; the register number and the counts are a message's.
 pub struct Item {
@@ -53,20 +55,17 @@ fn store(part: &mut [u8], x: Item)
     store_fields(part, 1, x.register, counts);
 }
 
-// A place of 21 bytes holds an item in range.
-fn item_test(n: u8, t: u16, part: &[u8]) -> bool
+// A place of 21 bytes holds a control item: all but its kind is 0.
+fn is_control(part: &[u8]) -> bool
     requires { ⌜ length (now part) ≡ 21 ⌝ }
-    ensures { λ r. ⌜ r ≡ itemTest (sized n t) (now (part .entry)) ⌝ }
+    ensures { λ r. ⌜ r ≡ ((eqb (getD (now (part .entry)) 0 0) 2 || eqb (getD (now (part .entry)) 0 0) 3) && allZero (drop 1 (now (part .entry)))) ⌝ }
 {
     let kind = part[0];
-    if kind == 1 {
-        let counts = codec::get_row(part, 5);
-        return clock::counts_fit(counts, n, t);
-    }
     ((kind == 2) | (kind == 3)) & codec::zeros(&part[1..])
 }
 
-// The part holds at most `places` items, each in range. What stands behind them is not looked at.
+// The part holds at most `places` items, each in range. What stands behind them is not looked at. The greatest counts of all
+// messages are tested, once.
 pub fn items_fit(places: u8, n: u8, t: u16, part: &[u8]) -> bool
     requires { ⌜ (length (now part) ≡ 715) × (places ≤ 34) ⌝ }
     ensures { λ r. ⌜ r ≡ itemsTest places (sized n t) (now (part .entry)) ⌝ }
@@ -76,16 +75,24 @@ pub fn items_fit(places: u8, n: u8, t: u16, part: &[u8]) -> bool
         return false;
     }
     let count = b as usize;
+    let mut most = [0u16; 8];
     let mut k = 0;
     while k < count {
         let o = 1 + k * 21;
         let e = o + 21;
-        if !item_test(n, t, &part[o..e]) {
+        let item = &part[o..e];
+        if item[0] == 1 {
+            let more = clock::merge(most, codec::get_row(item, 5));
+            most = more;
+            k += 1;
+            continue;
+        }
+        if !is_control(item) {
             return false;
         }
         k += 1;
     }
-    true
+    clock::counts_fit(most, n, t)
 }
 
 // The first item, which stays.

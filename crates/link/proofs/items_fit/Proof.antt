@@ -1,62 +1,83 @@
 use borrow.Author.Needs.{needs}
 use Prim.Native.Nat.{ℕ, _+_, _*_, _-_, _≤_}
-use mathlib.Core.Path.{_≡_, _∙_, sym}
-use mathlib.Core.Bool.{true}
+use mathlib.Core.Path.{_≡_, refl, _∙_, sym}
+use mathlib.Core.Bool.{and-true}
 use native.Mathlib.Omega.{arith}
 use borrow.Author.Tests.{not-true, not-false, le-leb, lt-leb}
 use denote.Ref.{now}
 use lib.ListN.{length, getD, take, drop, length-take, length-drop}
-use lib.Seq.{take-all}
+use Rattle.codec.specs.Num.{numsAt}
 use Rattle.codec.specs.Every.{every}
-use Rattle.codec.proofs.EveryLaws.{every-none, every-more, every-fails}
-use Rattle.link.specs.Image.{itemTestAt, itemsTest, sized}
+use Rattle.codec.proofs.EveryLaws.{every-none, every-fails}
+use Rattle.codec.proofs.FlagLaws.{every-turn}
+use Rattle.clock.specs.Range.{countsFit as fit}
+use Rattle.clock.proofs.MergeLaws.{merged-length}
+use Rattle.link.specs.Image.{placeAt, itemTestAt, itemsTest, sized}
+use Rattle.link.proofs.GatherLaws.{none-fit, merged-fit, message-test, control-test}
 use Rattle.link.proofs.items_fit.Statement.{statement}
 use Rattle.link.proofs.items_fit.Tie as tie
 
 abbrev Inv-loop : tie.InvT-loop
-Inv-loop places n t part b count k₀ k = (k ≤ count) × (every k (itemTestAt (sized n t) part) ≡ true)
+Inv-loop places n t part b count most₀ k₀ most k = (k ≤ count) × (length most ≡ 8) × (every k (itemTestAt (sized n t) part) ≡ fit n t most)
 
 abbrev μ-loop : tie.MeasureT-loop
-μ-loop places n t part b count k₀ k = count - k
+μ-loop places n t part b count most₀ k₀ most k = count - k
 
 returns : tie.Need-returns Inv-loop μ-loop
 unfolding itemsTest
 returns c = rw (lt-leb _ _ (c .if1 .taken))
 
 loop-holds : tie.Need-loop-holds Inv-loop μ-loop
-loop-holds c = (omega arith, every-none _)
+loop-holds c = (omega arith, refl, every-none _ ∙ sym (none-fit _ _))
 
-item-test-requires : tie.Need-item-test-requires Inv-loop μ-loop
-item-test-requires c κs = simp (length-take, length-drop) (omega arith)
+-- the part lent is 21 bytes
+width : (o : ℕ) → o + 21 - o ≡ 21
+width o = omega arith
 
--- the test of the part lent is that of place k
-tested : (c : tie.After-item-test Inv-loop μ-loop)
-    → let s = c .before .before .before .before .before .before .before in
-    itemTestAt (sized (s .args .n) (s .args .t)) (now (s .args .part)) (c .before .before .before .loop .k) ≡ c .item-test .result
+loop-again : tie.Need-loop-again Inv-loop μ-loop
+loop-again c =
+    let l = c .before .before .before .before .before .before in
+    let s = l .before .before .before .before .args in
+    let k = l .loop .k in
+    let p = placeAt (now (s .part)) k in
+    let kind : getD p 0 0 ≡ 1 = rw (width (1 + k * 21)) at (c .before .before .if2 .taken) in
+    let row : c .before .get-row .result ≡ numsAt 2 8 p 5 = rw (width (1 + k * 21)) at (c .before .get-row .ensures) in
+    (omega arith, rw (c .merge .ensures, merged-length) (l .loop .inv .1), rw (every-turn, l .loop .inv .2, message-test (s .n) (s .t) p kind, c .merge .ensures, merged-fit (s .n) (s .t) (l .loop .most) _ (l .loop .inv .1), row))
+
+get-row-requires : tie.Need-get-row-requires Inv-loop μ-loop
+get-row-requires c κs = simp (length-take, length-drop) (omega arith)
+
+is-control-requires : tie.Need-is-control-requires Inv-loop μ-loop
+is-control-requires c κs = simp (length-take, length-drop) (omega arith)
+
+-- the test of a place that holds no message
+tested : (c : tie.After-is-control Inv-loop μ-loop)
+    → let l = c .before .before .before .before .before in
+    let s = l .before .before .before .before .args in
+    itemTestAt (sized (s .n) (s .t)) (now (s .part)) (l .loop .k) ≡ c .is-control .result
 tested c =
-    let k = c .before .before .before .loop .k in
-    let e : 1 + k * 21 + 21 - (1 + k * 21) ≡ 21 = omega arith in
-    sym (rw e at (c .item-test .ensures))
+    let l = c .before .before .before .before .before in
+    let s = l .before .before .before .before .args in
+    let e = width (1 + l .loop .k * 21) in
+    control-test (s .n) (s .t) _ (rw e at (c .before .if2 .left)) ∙ sym (rw e at (c .is-control .ensures))
 
 returns-2 : tie.Need-returns-2 Inv-loop μ-loop
 unfolding itemsTest
 returns-2 c =
-    let l = c .before .before .before .before .before in
-    let s = l .before .before .before in
-    rw (le-leb _ _ (l .if1 .left), every-fails (getD (now (s .args .part)) 0 0) _ (c .before .before .before .before .loop .k) (omega arith) (tested (c .before) ∙ not-true _ (c .if2 .taken)))
+    let l = c .before .before .before .before .before .before in
+    rw (le-leb _ _ (l .before .if1 .left), every-fails (getD (now (l .before .before .before .before .args .part)) 0 0) _ (l .loop .k) (omega arith) (tested (c .before) ∙ not-true _ (c .if3 .taken)))
 
-loop-again : tie.Need-loop-again Inv-loop μ-loop
-loop-again c =
-    let l = c .before .before .before .before .loop in
-    (omega arith, every-more (l .k) _ (l .inv .1) (tested (c .before) ∙ not-false _ (c .if2 .left)))
+loop-again-2 : tie.Need-loop-again-2 Inv-loop μ-loop
+loop-again-2 c =
+    let l = c .before .before .before .before .before .before .loop in
+    (omega arith, l .inv .1, rw (every-turn, tested (c .before) ∙ not-false _ (c .if3 .left), and-true) (l .inv .2))
 
 returns-3 : tie.Need-returns-3 Inv-loop μ-loop
 unfolding itemsTest
 returns-3 c =
-    let l = c .before in
-    let a = now (l .before .before .before .before .args .part) in
-    let e : l .loop .k ≡ getD a 0 0 = omega arith in
-    rw (le-leb _ _ (l .before .if1 .left), rw e at (l .loop .inv .1))
+    let l = c .before .before in
+    let e : l .loop .k ≡ getD (now (l .before .before .before .before .args .part)) 0 0 = omega arith in
+    rw (le-leb _ _ (l .before .if1 .left), c .counts-fit .ensures) (sym (rw e at (l .loop .inv .2)))
 
 pub items-fit-spec : {M : Type 1} → statement M
 items-fit-spec =
@@ -64,7 +85,7 @@ items-fit-spec =
     (tie.spec
     Inv-loop
     μ-loop
-    (λ c. search needs) returns (λ c. search needs) loop-holds (λ c. search needs)
-    (λ c. search needs) (λ c. search needs) (λ c. search needs) (λ c. search needs)
-    (λ c. search needs) item-test-requires returns-2 (λ c. search needs) (λ c. search needs)
-    loop-again returns-3)
+    (λ c. search needs) returns (λ c. search needs) loop-holds (λ c. search needs) (λ c. search needs)
+    (λ c. search needs) (λ c. search needs) (λ c. search needs) (λ c. search needs) (λ c. search needs)
+    get-row-requires (λ c κs. search needs) (λ c. search needs) (λ c. search needs) loop-again is-control-requires
+    returns-2 (λ c. search needs) (λ c. search needs) loop-again-2 (λ c κs. search needs) returns-3)
