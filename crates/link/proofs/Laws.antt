@@ -177,9 +177,9 @@ link-empty =
     link-form [] (omega arith) ∙ (rw one at (blank-append 1 714))
 
 -- an item written behind the others
-pub pushed : (q : Queue) (x : Item vector) → length q < 34
-    → set (splice (imageLink q) (1 + length q * 21) (imageItem x)) 0 (length q + 1) ≡ imageLink (q ++ (x ∷ []))
-pushed q x h =
+pub pushed : (q : Queue) (x : Item vector) {l m : List ℕ} {k v : ℕ} → l ≡ imageLink q → m ≡ splice l (1 + k * 21) (imageItem x) → v ≡ k + 1 → k ≡ length q → length q < 34
+    → set m 0 v ≡ imageLink (q ++ (x ∷ []))
+pushed q x c d f g h =
     let n : ℕ = length q in
     let p : List ℕ = n ∷ rows imageItem q in
     let z : List ℕ = blank (714 - n * 21) in
@@ -189,7 +189,7 @@ pushed q x h =
     let m : (n + 1) * 21 ≡ n * 21 + 21 = omega arith in
     let k : 714 - n * 21 - 21 ≡ 714 - (n * 21 + 21) = omega arith in
     let long : length (q ++ (x ∷ [])) ≡ n + 1 = length-append q (x ∷ []) in
-    rw (link-form q (omega arith), link-form (q ++ (x ∷ [])) (omega arith))
+    rw (d, c, f, g, link-form q (omega arith), link-form (q ++ (x ∷ [])) (omega arith))
     (rw (a, b, item-length x, blank-drop, length-append, rows-append imageItem 21 item-length, m, k, append-nil, append-assoc))
 
 -- the first item taken off: the places in use move by one, and zeros follow them

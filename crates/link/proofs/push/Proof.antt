@@ -3,7 +3,7 @@ use mathlib.Core.Path.{_≡_, _∙_, sym, ap}
 use mathlib.Core.List.{List}
 use native.Mathlib.Omega.{arith}
 use denote.Ref.{now}
-use lib.ListN.{length, getD, set}
+use lib.ListN.{length, getD}
 use Rattle.codec.proofs.SpliceLaws.{lent}
 use Rattle.reset.specs.Clock.{vector}
 use Rattle.reset.specs.State.{Item}
@@ -23,8 +23,7 @@ returns c = λ q e.
     let k : o + 21 - o ≡ 21 = omega arith in
     let n : getD l 0 0 ≡ length q = ap (λ (m : List ℕ). getD m 0 0) e ∙ link-count q in
     let h : length q < 34 = omega arith in
-    ap (λ (m : List ℕ). set m 0 (getD l 0 0 + 1)) (lent l (t .store .last .0) (imageItem x) o (o + 21) (t .store .ensures) (k ∙ sym (item-length x)))
-    ∙ rw (n, e) (pushed q x h)
+    pushed q x e (lent l (t .store .last .0) (imageItem x) o (o + 21) (t .store .ensures) (k ∙ sym (item-length x))) (omega arith) n h
 
 pub push-spec : {M : Type 1} → statement M
 push-spec =
