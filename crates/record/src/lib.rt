@@ -111,9 +111,7 @@ pub fn well_made(s: &[u8]) -> bool
         return false;
     }
     let station = s[1];
-    if !peer_fits(s[0], station, s[2]) {
-        return false;
-    }
     let i = station as usize;
-    (codec::get32(s, 4) <= 999999) & (1 <= codec::get16(s, 16 + i * 2))
+    peer_fits(s[0], station, s[2])
+        & ((codec::get32(s, 4) <= 999999) & (1 <= codec::get16(s, 16 + i * 2)))
 }

@@ -1,8 +1,12 @@
+use Prim.Native.Nat.{_<_}
 use mathlib.Core.Path.{_≡_, _∙_, sym}
+use mathlib.Core.Bool.{true, _&&_}
 use native.Mathlib.Omega.{arith}
 use denote.Ref.{now}
+use lib.Dec.{eqb, ltb}
 use lib.ListN.{getD}
-use borrow.Author.Tests.{ne-eqb, not-true, not-false}
+use borrow.Author.Tests.{ne-eqb}
+use Rattle.codec.specs.Num.{numAt}
 use Rattle.codec.proofs.NumLaws.{nums-get}
 use Rattle.record.specs.Record.{wellMadeRecord}
 use Rattle.record.proofs.Laws.{spare-first, spare-none}
@@ -18,59 +22,24 @@ returns-2 : tie.Need-returns-2
 returns-2 c =
     rw (spare-first (now (c .before .before .before .before .args .s)) (c .before .before .if1 .left), sym (c .before .spare .ensures) ∙ ne-eqb _ 0 (c .if2 .taken))
 
-peer-fits-requires : tie.Need-peer-fits-requires
-peer-fits-requires c κs =
-    let f = c .before .before .before in
-    let l = now (f .before .before .before .before .args .s) in
-    let q = spare-none l _ (f .before .spare .ensures) (f .if2 .left) in
-    omega arith
+-- what the spare bytes say, and that the station is below 8
+known : (f : tie.Else2)
+    → let l = now (f .before .before .before .before .args .s) in
+    ((eqb (getD l 3 0) 0 && (eqb (numAt 4 l 12) 0 && ltb (getD l 1 0) 8)) ≡ true) × (getD l 1 0 < 8)
+known f = spare-none (now (f .before .before .before .before .args .s)) _ (f .before .spare .ensures) (f .if2 .left)
 
 returns-3 : tie.Need-returns-3
 returns-3 c =
-    let f = c .before .before .before .before .before in
-    let l = now (f .before .before .before .before .args .s) in
-    let q = spare-none l _ (f .before .spare .ensures) (f .if2 .left) in
-    rw (spare-first l (f .before .before .if1 .left), q .0, sym (c .before .peer-fits .ensures) ∙ not-true _ (c .if3 .taken))
-
-cast-i : tie.Need-cast-i
-cast-i c =
-    let f = c .before .before .before .before .before in
-    let l = now (f .before .before .before .before .args .s) in
-    let q = spare-none l _ (f .before .spare .ensures) (f .if2 .left) in
-    omega arith
-
-mul-get16 : tie.Need-mul-get16
-mul-get16 c =
     let f = c .before .before .before .before .before .before in
     let l = now (f .before .before .before .before .args .s) in
-    let q = spare-none l _ (f .before .spare .ensures) (f .if2 .left) in
-    omega arith
-
-add-get16 : tie.Need-add-get16
-add-get16 c =
-    let f = c .before .before .before .before .before .before in
-    let l = now (f .before .before .before .before .args .s) in
-    let q = spare-none l _ (f .before .spare .ensures) (f .if2 .left) in
-    omega arith
-
-get16-requires : tie.Need-get16-requires
-get16-requires c κs =
-    let f = c .before .before .before .before .before .before in
-    let l = now (f .before .before .before .before .args .s) in
-    let q = spare-none l _ (f .before .spare .ensures) (f .if2 .left) in
-    omega arith
-
-returns-4 : tie.Need-returns-4
-returns-4 c =
-    let f = c .before .before .before .before .before .before .before in
-    let l = now (f .before .before .before .before .args .s) in
-    let q = spare-none l _ (f .before .spare .ensures) (f .if2 .left) in
-    rw (spare-first l (f .before .before .if1 .left), q .0, sym (c .before .before .before .peer-fits .ensures) ∙ not-false _ (c .before .before .if3 .left), c .before .get32 .ensures, c .get16 .ensures, nums-get 2 8 l 16 (getD l 1 0) (q .1))
+    rw (spare-first l (f .before .before .if1 .left), known f .0, c .before .before .peer-fits .ensures, c .before .get32 .ensures, c .get16 .ensures, nums-get 2 8 l 16 (getD l 1 0) (known f .1))
 
 pub well-made-spec : {M : Type 1} → statement M
 well-made-spec =
     tie.close
     (tie.spec
-    returns (λ c κs. search needs) returns-2 (λ c. search needs) (λ c. search needs)
-    (λ c. search needs) peer-fits-requires returns-3 cast-i (λ c κs. search needs) mul-get16
-    add-get16 get16-requires returns-4)
+    returns (λ c κs. search needs) returns-2 (λ c. search needs) (λ c. omega (arith, known (c .before) .1))
+    (λ c. search needs) (λ c. search needs) (λ c κs. known (c .before .before .before) .1) (λ c κs. search needs)
+    (λ c. omega (arith, known (c .before .before .before .before .before) .1))
+    (λ c. omega (arith, known (c .before .before .before .before .before) .1))
+    (λ c κs. omega (arith, known (c .before .before .before .before .before) .1)) returns-3)
