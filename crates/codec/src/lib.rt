@@ -245,19 +245,32 @@ fn weigh_columns(s: &[u8]) -> u32
     sum
 }
 
+// The sum of the first `end` bytes, each times its place from 1, from that of the first `i`.
+fn weigh_on(s: &[u8], i: u32, end: u32, sum: u32) -> u32
+    requires { ⌜ (i ≤ end) × (end ≤ 510) × (510 ≤ length (now s)) × (sum ≤ 130050 * i) × (sum ≡ weighted 1 (take i (now s))) ⌝ }
+    ensures { λ r. ⌜ (r ≡ weighted 1 (take end (now (s .entry)))) × (r ≤ 130050 * end) ⌝ }
+{
+    let mut all = sum;
+    let mut k = i;
+    while k < end {
+        let at = k as usize;
+        all += (k + 1) * wide32(s[at]);
+        k += 1;
+    }
+    all
+}
+
 // The sum of the first 510 bytes, each times its place from 1: at most 510 times 255 times 510, so that 32 bits hold it.
+// The last fourteen, which are zero in an entries block, are added only where they are not.
 fn weigh(s: &[u8]) -> u32
     requires { ⌜ 510 ≤ length (now s) ⌝ }
     ensures { λ r. ⌜ (r ≡ weighted 1 (take 510 (now (s .entry)))) × (r ≤ 66325500) ⌝ }
 {
-    let mut sum = weigh_columns(s);
-    let mut i: u32 = 480;
-    while i < 510 {
-        let at = i as usize;
-        sum += (i + 1) * wide32(s[at]);
-        i += 1;
+    let sum = weigh_on(s, 480, 496, weigh_columns(s));
+    if zeros(&s[496..510]) {
+        return sum;
     }
-    sum
+    weigh_on(s, 496, 510, sum)
 }
 
 // The check of a block, of its first 510 bytes.
