@@ -1,15 +1,15 @@
 -- The records of a block tested together are the records tested one by one. Assumes nothing.
-use Prim.Native.Nat.{ℕ, zero, suc, _+_, _*_, _-_, _%_, _≤_, _<_}
+use Prim.Native.Nat.{ℕ, zero, suc, min, _+_, _*_, _-_, _%_, _≤_, _<_}
 use mathlib.Core.Path.{_≡_, refl, _∙_, sym, ap}
 use mathlib.Core.List.{List, [], _∷_}
 use mathlib.Core.Bool.{Bool, true, false, _&&_, _||_, and-false}
 use native.Mathlib.Omega.{arith}
 use native.Mathlib.Decide.{decLt}
 use lib.Dec.{eqb, leb, ltb}
-use lib.Bits.{bitOr, or-add-and, and-le-l, and-le-r}
+use lib.Bits.{bitOr, bitXor, or-add-and, xor-add-and, xor-self, and-le-l, and-le-r}
 use lib.ListN.{length, getD, take, drop, length-take, length-drop}
 use lib.Seq.{getD-take, getD-drop}
-use borrow.Author.Tests.{eq-eqb, eqb-true, ltb-true, lt-ltb, le-leb}
+use borrow.Author.Tests.{eq-eqb, eqb-true, ltb-true, lt-ltb, leb-true, le-leb}
 use Rattle.codec.specs.Num.{AreBytes, numAt, numsAt}
 use Rattle.codec.specs.Every.{every, total}
 use Rattle.codec.proofs.NumLaws.{nums-get}
@@ -32,6 +32,12 @@ same-test : (a b : Bool) → (a ≡ true → b ≡ true) → (b ≡ true → a �
 same-test true b f g = sym (f refl)
 same-test false true f g = g refl
 same-test false false f g = refl
+
+-- no bit differs in equal numbers alone
+pub xor-zero : (a b : ℕ) → eqb (bitXor a b) 0 ≡ eqb a b
+xor-zero a b =
+    same-test _ _ (λ (e : eqb (bitXor a b) 0 ≡ true). let z : bitXor a b ≡ 0 = eqb-true _ _ e in eq-eqb a b (omega (arith, xor-add-and a b, and-le-l a b, and-le-r a b)))
+    (λ (e : eqb a b ≡ true). let q : a ≡ b = eqb-true _ _ e in rw (q, xor-self b))
 
 -- a test of every pair, by the one or by the other
 every-swap : (n k : ℕ) (p : ℕ → ℕ → Bool) → every n (λ (i : ℕ). every k (p i)) ≡ every k (λ (j : ℕ). every n (λ (i : ℕ). p i j))
@@ -166,6 +172,26 @@ records-split f l count =
 pub part-record : (l : List ℕ) (k o : ℕ) → o ≡ recordStart k → take (o + 32 - o) (drop o l) ≡ recordOf l k
 unfolding recordOf
 part-record l k o e = let f : o + 32 - o ≡ 32 = omega arith in rw (f, e)
+
+-- the first bytes of one record more
+pub front-more : (f l : List ℕ) (wrong least d own : ℕ) → eqb d 0 ≡ eqb (getD f (placeOf (numAt 4 l 0)) 0) (numAt 4 l 0) → own ≡ numAt 2 l (16 + 2 * (placeOf (numAt 4 l 0) % 8))
+    → (eqb (bitOr wrong d) 0 && leb 1 (min own least)) ≡ (eqb wrong 0 && leb 1 least && frontTest f l)
+unfolding frontTest
+front-more f l wrong least d own e o = rw (or-zero wrong d, at-least own least, e, o) (turn (eqb wrong 0) _ _ (leb 1 least))
+  where
+    at-least : (a b : ℕ) → leb 1 (min a b) ≡ (leb 1 a && leb 1 b)
+    at-least a b =
+        same-test _ _ (λ (e : leb 1 (min a b) ≡ true). let h : 1 ≤ min a b = leb-true _ _ e in join _ _ (le-leb 1 a (omega arith)) (le-leb 1 b (omega arith)))
+        (λ (e : (leb 1 a && leb 1 b) ≡ true).
+        let q = both (leb 1 a) _ e in
+        let x : 1 ≤ a = leb-true _ _ (q .0) in
+        let y : 1 ≤ b = leb-true _ _ (q .1) in
+        le-leb 1 (min a b) (omega arith))
+
+    turn : (a p q b : Bool) → (a && p && (q && b)) ≡ (a && b && (p && q))
+    turn false p q b = refl
+    turn true false q b = sym (and-false b)
+    turn true true q b = and-comm q b
 
 -- one record more
 pub looked-more : (f l : List ℕ) (k : ℕ) (right : Bool) (spare phases : ℕ) → Looked f l k right spare phases

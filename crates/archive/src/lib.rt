@@ -1,9 +1,9 @@
 // A whole archive: its test, its records, and a found record as a part of the caller's own bytes.
 ghost use mathlib.Core.Path.{_≡_};
 ghost use mathlib.Core.Bool.{true, cond};
-ghost use Prim.Native.Nat.{ℕ, _≤_, _<_, _+_, _*_, _/_};
+ghost use Prim.Native.Nat.{ℕ, min, _≤_, _<_, _+_, _*_, _/_};
 ghost use lib.Dec.{eqb, leb};
-ghost use lib.ListN.{length};
+ghost use lib.ListN.{length, getD};
 ghost use Rattle.codec.specs.Every.{every};
 ghost use Rattle.header.specs.Header.{parseHeader, tableAt};
 ghost use Rattle.entries.specs.Entries.{numberOf, recordOf};
@@ -99,14 +99,17 @@ fn place_of(x: u32) -> usize
     (y * 1073809408 / 16777216 % 256) as usize
 }
 
-// A record's first four bytes are right, and its station has a count.
-fn front_fits(known: &[u32; 256], part: &[u8]) -> bool
-    requires { ⌜ length (now part) ≡ 32 ⌝ }
-    ensures { λ r. ⌜ r ≡ frontTest (now (known .entry)) (now (part .entry)) ⌝ }
+// Where a record's first four bytes differ from what stands in their place: 0 where they are right.
+fn differ(known: &[u32; 256], x: u32) -> u32
+    ensures { λ r. ⌜ eqb r 0 ≡ eqb (getD (now (known .entry)) (placeOf x) 0) x ⌝ }
 {
-    let x = codec::get32(part, 0);
-    let at = place_of(x);
-    (known[at] == x) & (1 <= codec::get16(part, 16 + 2 * (at % 8)))
+    known[place_of(x)] ^ x
+}
+
+fn smaller(x: u16, y: u16) -> u16
+    ensures { λ r. ⌜ r ≡ min x y ⌝ }
+{
+    if x < y { x } else { y }
 }
 
 // What is seen of a block's records, gathered with no branch: spare bytes and phases joined by `|`.
@@ -116,12 +119,13 @@ struct Seen {
     phases: u32,
 }
 
-// The first `count` records of a block.
+// The first `count` records of a block. Of their stations' own counts the least is kept.
 fn look(known: &[u32; 256], block: &[u8], count: usize) -> Seen
     requires { ⌜ (length (now block) ≡ 512) × (count ≤ 15) ⌝ }
     ensures { λ r. ⌜ Looked (now (known .entry)) (now (block .entry)) count (r .right) (r .spare) (r .phases) ⌝ }
 {
-    let mut right = true;
+    let mut wrong: u32 = 0;
+    let mut least: u16 = 1;
     let mut spare: u32 = 0;
     let mut phases: u32 = 0;
     let mut k = 0;
@@ -129,13 +133,15 @@ fn look(known: &[u32; 256], block: &[u8], count: usize) -> Seen
         let o = entries::start_of(k);
         let e = o + 32;
         let part = &block[o..e];
-        right = right & front_fits(known, part);
+        let x = codec::get32(part, 0);
+        wrong = wrong | differ(known, x);
+        least = smaller(codec::get16(part, 16 + 2 * (place_of(x) % 8)), least);
         spare = spare | codec::get32(part, 12);
         phases = phases | codec::get32(part, 4);
         k += 1;
     }
     Seen {
-        right,
+        right: (wrong == 0) & (1 <= least),
         spare,
         phases,
     }
