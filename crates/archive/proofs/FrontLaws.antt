@@ -56,7 +56,7 @@ linked-place s p h g =
 
 module _ (n : ℕ) (m : List (List ℕ)) where
   -- ---- what stands in a place
-  own-at : (s : ℕ) → s < 8 → frontOf n m (56 + s) ≡ cond (ltb s n) (16711681 + 256 * s) 0
+  own-at : (s : ℕ) → s < 8 → frontOf n m (56 + s) ≡ 16711681 + 256 * s
   unfolding frontOf
   own-at s h =
       let e : (56 + s) % 8 ≡ s = omega arith in
@@ -83,14 +83,14 @@ module _ (n : ℕ) (m : List (List ℕ)) where
   -- ---- a record that may stand by its own kind, station and peer
   module _ (small : n ≤ 8) (r : Record) where
     abbrev Right : Type 0
-    Right = (r .station < n) × (peerFits (r .kind) (r .station) (r .peer) ≡ true) × (peerKnown n m r ≡ true)
+    Right = (r .station < 8) × (peerFits (r .kind) (r .station) (r .peer) ≡ true) × (peerKnown n m r ≡ true)
 
-    own-right : r .kind ≡ 1 → r .peer ≡ 255 → r .station < n → Right
+    own-right : r .kind ≡ 1 → r .peer ≡ 255 → r .station < 8 → Right
     unfolding peerFits peerKnown
     own-right a c h = (h, rw (a, c), rw a)
 
     -- a sent or a received one, whose link is there
-    linked-right : r .station < n → r .peer < n → eqb (r .peer) (r .station) ≡ false → (t : Bool) → eqb (r .kind) 2 ≡ t
+    linked-right : r .station < 8 → r .peer < n → eqb (r .peer) (r .station) ≡ false → (t : Bool) → eqb (r .kind) 2 ≡ t
         → cond t (hasLink m (r .station) (r .peer)) (eqb (r .kind) 3 && hasLink m (r .peer) (r .station)) ≡ true → Right
     unfolding peerFits peerKnown
     linked-right s p x true e l =
@@ -101,13 +101,12 @@ module _ (n : ℕ) (m : List (List ℕ)) where
         let k : r .kind ≡ 3 = eqb-true _ _ (q .0) in
         (s, rw (k, lt-ltb (r .peer) 8 (omega arith), x), rw (k, lt-ltb (r .peer) n p, q .1))
 
-    other-right : mayStand n m (r .kind) (r .station) (r .peer) ≡ true → Right
+    other-right : r .station < 8 → mayStand n m (r .kind) (r .station) (r .peer) ≡ true → Right
     unfolding mayStand hasLink
-    other-right h =
-        let q = both (ltb (r .station) n && (ltb (r .peer) n && not (eqb (r .station) (r .peer)))) _ h in
-        let a = both (ltb (r .station) n) _ (q .0) in
-        let d = both (ltb (r .peer) n) _ (a .1) in
-        linked-right (ltb-true _ _ (a .0)) (ltb-true _ _ (d .0)) (differ (r .station) (r .peer) (d .1)) (eqb (r .kind) 2) refl (q .1)
+    other-right s h =
+        let q = both (ltb (r .peer) n && not (eqb (r .station) (r .peer))) _ h in
+        let d = both (ltb (r .peer) n) _ (q .0) in
+        linked-right s (ltb-true _ _ (d .0)) (differ (r .station) (r .peer) (d .1)) (eqb (r .kind) 2) refl (q .1)
 
     module _ (d x : ℕ) (k-small : r .kind < 256) (s-small : r .station < 256) (p-small : r .peer < 256) (d-small : d < 256)
         (is : x ≡ r .kind + 256 * (r .station + 256 * (r .peer + 256 * (d + 256 * 0)))) where
@@ -115,19 +114,18 @@ module _ (n : ℕ) (m : List (List ℕ)) where
       pub front-back : frontOf n m (placeOf x) ≡ x → (d ≡ 0) × (placeOf x % 8 ≡ r .station) × Right
       unfolding frontOf placeOf
       front-back e =
-          go (placeOf x) (omega arith) (λ (z : 0 ≡ x). ap placeOf (sym z)) (λ (z : 458752 ≡ x). ap placeOf (sym z)) (eqb (placeOf x / 8) 7) refl (ltb (placeOf x % 8) n) refl
+          go (placeOf x) (omega arith) (λ (z : 458752 ≡ x). ap placeOf (sym z)) (eqb (placeOf x / 8) 7) refl
           (mayStand n m (placeOf x / 64) (placeOf x % 8) (placeOf x / 8 % 8)) refl e
         where
-          go : (i : ℕ) → i < 256 → (0 ≡ x → i ≡ 0) → (458752 ≡ x → i ≡ 56) → (t : Bool) → eqb (i / 8) 7 ≡ t → (u : Bool) → ltb (i % 8) n ≡ u → (v : Bool) → mayStand n m (i / 64) (i % 8) (i / 8 % 8) ≡ v
-              → cond t (cond u (16711681 + 256 * (i % 8)) 0) (cond v (i / 64 + (256 * (i % 8) + 65536 * (i / 8 % 8))) 458752) ≡ x → (d ≡ 0) × (i % 8 ≡ r .station) × Right
-          go i b z y true f true g v w e =
+          go : (i : ℕ) → i < 256 → (458752 ≡ x → i ≡ 56) → (t : Bool) → eqb (i / 8) 7 ≡ t → (v : Bool) → mayStand n m (i / 64) (i % 8) (i / 8 % 8) ≡ v
+              → cond t (16711681 + 256 * (i % 8)) (cond v (i / 64 + (256 * (i % 8) + 65536 * (i / 8 % 8))) 458752) ≡ x → (d ≡ 0) × (i % 8 ≡ r .station) × Right
+          go i b y true f v w e =
               let q = bytes-same 1 (i % 8) 255 (r .kind) (r .station) (r .peer) d (omega arith) (omega arith) (omega arith) k-small s-small p-small d-small (omega arith) in
-              (q .3, q .1, own-right (sym (q .0)) (sym (q .2)) (omega (arith, ltb-true (i % 8) n g)))
-          go i b z y true f false g v w e = let q : i / 8 ≡ 7 = eqb-true _ _ f in absurd (omega (arith, z e))
-          go i b z y false f u g true w e =
+              (q .3, q .1, own-right (sym (q .0)) (sym (q .2)) (omega (arith, q .1)))
+          go i b y false f true w e =
               let q = bytes-same (i / 64) (i % 8) (i / 8 % 8) (r .kind) (r .station) (r .peer) d (omega arith) (omega arith) (omega arith) k-small s-small p-small d-small (e ∙ is) in
-              (q .3, q .1, other-right (rw (q .0, q .1, q .2) at w))
-          go i b z y false f u g false w e = let q : i / 8 ≡ 7 → ⊥ = eqb-false _ _ f in absurd (q (omega (arith, y e)))
+              (q .3, q .1, other-right (omega (arith, q .1)) (rw (q .0, q .1, q .2) at w))
+          go i b y false f false w e = let q : i / 8 ≡ 7 → ⊥ = eqb-false _ _ f in absurd (q (omega (arith, y e)))
 
     -- ---- and the other way
     module _ (x : ℕ) (is : x ≡ r .kind + 256 * (r .station + 256 * (r .peer + 256 * 0))) where
@@ -142,30 +140,30 @@ module _ (n : ℕ) (m : List (List ℕ)) where
           linked p true e l =
               let k : r .kind ≡ 2 = eqb-true _ _ e in
               let z = both (ltb (r .peer) 8) _ (rw k at (h .1)) in
-              let s : r .station < 8 = omega (arith, h .0) in
+              let s : r .station < 8 = h .0 in
               let q : r .peer < 8 = omega arith in
               let i : x ≡ 2 + (256 * r .station + 65536 * r .peer) = omega arith in
               let y : not (eqb (r .station) (r .peer)) ≡ true = rw (differ (r .peer) (r .station) (z .1)) in
-              let w : mayStand n m 2 (r .station) (r .peer) ≡ true = join _ _ (join _ _ (lt-ltb _ _ (h .0)) (join _ _ (lt-ltb _ _ p) y)) (or-left (hasLink m (r .station) (r .peer)) (rw k at l)) in
+              let w : mayStand n m 2 (r .station) (r .peer) ≡ true = join _ _ (join _ _ (lt-ltb _ _ p) y) (or-left (hasLink m (r .station) (r .peer)) (rw k at l)) in
               rw (i, linked-place (r .station) (r .peer) s q .0) (sent-at (r .station) (r .peer) s q ∙ rw w, omega arith)
           linked p false e l =
               let q = both (eqb (r .kind) 3) _ l in
               let k : r .kind ≡ 3 = eqb-true _ _ (q .0) in
               let z = both (ltb (r .peer) 8) _ (rw k at (h .1)) in
-              let s : r .station < 8 = omega (arith, h .0) in
+              let s : r .station < 8 = h .0 in
               let u : r .peer < 8 = omega arith in
               let i : x ≡ 3 + (256 * r .station + 65536 * r .peer) = omega arith in
               let y : not (eqb (r .station) (r .peer)) ≡ true = rw (differ (r .peer) (r .station) (z .1)) in
-              let w : mayStand n m 3 (r .station) (r .peer) ≡ true = join _ _ (join _ _ (lt-ltb _ _ (h .0)) (join _ _ (lt-ltb _ _ p) y)) (q .1) in
+              let w : mayStand n m 3 (r .station) (r .peer) ≡ true = join _ _ (join _ _ (lt-ltb _ _ p) y) (q .1) in
               rw (i, linked-place (r .station) (r .peer) s u .1) (received-at (r .station) (r .peer) s u ∙ rw w, omega arith)
 
           own : (t : Bool) → eqb (r .kind) 1 ≡ t → Stands
           own true e =
               let k : r .kind ≡ 1 = eqb-true _ _ e in
               let p : r .peer ≡ 255 = eqb-true _ _ (or-left (eqb (r .peer) 255) (rw k at (h .1))) in
-              let s : r .station < 8 = omega (arith, h .0) in
+              let s : r .station < 8 = h .0 in
               let i : x ≡ 16711681 + 256 * r .station = omega arith in
-              rw (i, own-place (r .station) s) (own-at (r .station) s ∙ rw (lt-ltb (r .station) n (h .0)), omega arith)
+              rw (i, own-place (r .station) s) (own-at (r .station) s, omega arith)
           own false e =
               let q = both (ltb (r .peer) n) _ (rw e at (h .2)) in
               linked (ltb-true _ _ (q .0)) (eqb (r .kind) 2) refl (q .1)
@@ -192,21 +190,21 @@ module _ (n : ℕ) (head : List ℕ) where
   -- no record is looked up there
   none-front : (i : ℕ) → i < 128 → i / 8 ≢ 7 → 458752 ≡ frontOf n m i
   unfolding frontOf mayStand
-  none-front i h d = rw (ne-eqb (i / 8) 7 d, ne-eqb (i / 64) 2 (omega arith), ne-eqb (i / 64) 3 (omega arith)) (sym (shut (ltb (i % 8) n && (ltb (i / 8 % 8) n && not (eqb (i % 8) (i / 8 % 8))))))
+  none-front i h d = rw (ne-eqb (i / 8) 7 d, ne-eqb (i / 64) 2 (omega arith), ne-eqb (i / 64) 3 (omega arith)) (sym (shut (ltb (i / 8 % 8) n && not (eqb (i % 8) (i / 8 % 8)))))
     where
       shut : (b : Bool) → cond (b && false) (i / 64 + (256 * (i % 8) + 65536 * (i / 8 % 8))) 458752 ≡ 458752
       shut true = refl
       shut false = refl
 
-  pub own-front : (p : ℕ) → p < 8 → cond (ltb p n) (16711681 + 256 * p) 0 ≡ frontOf n m (56 + p)
+  pub own-front : (p : ℕ) → p < 8 → 16711681 + 256 * p ≡ frontOf n m (56 + p)
   own-front p h = sym (own-at n m p h)
 
   module _ (s p : ℕ) (s-low : s < 8) (p-low : p < 8) where
-    pub sent-front : cond (ltb s n && (ltb p n && not (eqb s p)) && ltb 0 (getD head (32 + (s * 8 + p)) 0)) (2 + (256 * s + 65536 * p)) 458752 ≡ frontOf n m (128 + (p * 8 + s))
+    pub sent-front : cond (ltb p n && not (eqb s p) && ltb 0 (getD head (32 + (s * 8 + p)) 0)) (2 + (256 * s + 65536 * p)) 458752 ≡ frontOf n m (128 + (p * 8 + s))
     unfolding mayStand
     sent-front = sym (sent-at n m s p s-low p-low ∙ rw (table-at 8 head 32 s p s-low p-low))
 
-    pub received-front : cond (ltb s n && (ltb p n && not (eqb s p)) && ltb 0 (getD head (32 + (p * 8 + s)) 0)) (3 + (256 * s + 65536 * p)) 458752 ≡ frontOf n m (192 + (p * 8 + s))
+    pub received-front : cond (ltb p n && not (eqb s p) && ltb 0 (getD head (32 + (p * 8 + s)) 0)) (3 + (256 * s + 65536 * p)) 458752 ≡ frontOf n m (192 + (p * 8 + s))
     unfolding mayStand
     received-front = sym (received-at n m s p s-low p-low ∙ rw (table-at 8 head 32 p s p-low s-low))
 

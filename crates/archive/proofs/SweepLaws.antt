@@ -2,7 +2,7 @@
 use Prim.Native.Nat.{ℕ, zero, suc, min, _+_, _*_, _-_, _%_, _≤_, _<_}
 use mathlib.Core.Path.{_≡_, refl, _∙_, sym, ap}
 use mathlib.Core.List.{List, [], _∷_}
-use mathlib.Core.Bool.{Bool, true, false, _&&_, _||_, and-false}
+use mathlib.Core.Bool.{Bool, true, false, _&&_, _||_, cond, and-false}
 use native.Mathlib.Omega.{arith}
 use native.Mathlib.Decide.{decLt}
 use lib.Dec.{eqb, leb, ltb}
@@ -83,6 +83,18 @@ place-small : (x : ℕ) → placeOf x < 256
 unfolding placeOf
 place-small x = omega arith
 
+-- a station with a count is the network's
+known-station : (v : List ℕ) (n t s : ℕ) → s < 8 → countsFit n t v ≡ true → leb 1 (getD v s 0) ≡ true → ltb s n ≡ true
+unfolding countsFit
+known-station v n t s b f o = go (ltb s n) refl (every-at 8 (λ (k : ℕ). leb (getD v k 0) (ceilingOf n t k)) s f b)
+  where
+    go : (u : Bool) → ltb s n ≡ u → leb (getD v s 0) (cond u t 0) ≡ true → ltb s n ≡ true
+    go true e h = e
+    go false e h =
+        let x : getD v s 0 ≤ 0 = leb-true _ _ h in
+        let y : 1 ≤ getD v s 0 = leb-true _ _ o in
+        absurd (omega arith)
+
 module _ (h : Header) (m : List (List ℕ)) (f l : List ℕ) (small : h .n ≤ 8) (known : Fronts (h .n) m f) (sized : length l ≡ 32) (bytes : AreBytes l) where
   own-at : getD l 1 0 < 8 → getD (numsAt 2 8 l 16) (getD l 1 0) 0 ≡ numAt 2 l (16 + 2 * getD l 1 0)
   own-at b = nums-get 2 8 l 16 (getD l 1 0) b ∙ ap (λ (x : ℕ). numAt 2 l (16 + x)) (omega arith)
@@ -97,7 +109,7 @@ module _ (h : Header) (m : List (List ℕ)) (f l : List ℕ) (small : h .n ≤ 8
       let c = both (leb (numAt 4 l 4) 999999) _ (b .1) in
       let d = both (ltb (getD l 1 0) (h .n)) _ (p .1) in
       let g = both (peerKnown (h .n) m (parseRecord l)) _ (d .1) in
-      let x = front-right (h .n) m small (parseRecord l) (numAt 4 l 0) (omega (arith, w .1)) (ltb-true _ _ (d .0), b .0, g .0) in
+      let x = front-right (h .n) m small (parseRecord l) (numAt 4 l 0) (omega (arith, w .1)) (ltb-true _ _ (a .0), b .0, g .0) in
       let y : getD f (placeOf (numAt 4 l 0)) 0 ≡ numAt 4 l 0 = known (placeOf (numAt 4 l 0)) (place-small (numAt 4 l 0)) ∙ x .0 in
       let z = rw (own-at (ltb-true _ _ (a .0)), ← x .1) at (c .1) in
       join _ _ (join _ _ (join _ _ (join _ _ (eq-eqb _ _ y) z) (eq-eqb _ _ (w .2))) (c .0)) (g .1)
@@ -110,10 +122,10 @@ module _ (h : Header) (m : List (List ℕ)) (f l : List ℕ) (small : h .n ≤ 8
       let b = both (frontTest f l) _ (q .0) in
       let a = both (eqb (getD f (placeOf (numAt 4 l 0)) 0) (numAt 4 l 0)) _ (b .0) in
       let x = front-back (h .n) m small (parseRecord l) (getD l 3 0) (numAt 4 l 0) (bytes 0) (bytes 1) (bytes 2) (bytes 3) refl (sym (known (placeOf (numAt 4 l 0)) (place-small (numAt 4 l 0))) ∙ eqb-true _ _ (a .0)) in
-      let s : getD l 1 0 < 8 = omega (arith, x .2 .0) in
+      let s : getD l 1 0 < 8 = x .2 .0 in
       let z = rw (x .1, ← own-at s) at (a .1) in
       join _ _ (join _ _ (eq-eqb _ _ sized) (join _ _ (eq-eqb _ _ (x .0)) (join _ _ (b .1) (join _ _ (lt-ltb _ _ s) (join _ _ (x .2 .1) (join _ _ (q .1) z))))))
-      (join _ _ (lt-ltb _ _ (x .2 .0)) (join _ _ (x .2 .2) (p .1)))
+      (join _ _ (known-station (numsAt 2 8 l 16) (h .n) (h .t) (getD l 1 0) s (p .1) z) (join _ _ (x .2 .2) (p .1)))
 
   pub record-law : (wellMadeRecord l && recordKnown h m (parseRecord l)) ≡ (recordTest f l && countsFit (h .n) (h .t) (numsAt 2 8 l 16))
   record-law = same-test _ _ forth back

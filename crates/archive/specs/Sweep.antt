@@ -21,10 +21,10 @@ unfoldable pub countsTest : ℕ → ℕ → List ℕ → Bool
 countsTest n t l = every 8 (λ (i : ℕ). every 15 (λ (k : ℕ). leb (countAt l i k) (ceilingOf n t i)))
 
 -- ---- the first bytes
--- a sent (2) or received (3) record may stand with a station and a peer
+-- a sent (2) or received (3) record may stand with a station, if that has a count, and a peer
 unfoldable pub mayStand : ℕ → List (List ℕ) → ℕ → ℕ → ℕ → Bool
 mayStand n m kind s p =
-    ltb s n && (ltb p n && not (eqb s p)) && cond (eqb kind 2) (ltb 0 (getD (getD m s []) p 0)) (eqb kind 3 && ltb 0 (getD (getD m p []) s 0))
+    ltb p n && not (eqb s p) && cond (eqb kind 2) (ltb 0 (getD (getD m s []) p 0)) (eqb kind 3 && ltb 0 (getD (getD m p []) s 0))
 
 -- where a record's first four bytes, as a number, are looked up: the product brings kind, peer and station together, and a byte of
 -- kind * 64 + peer * 8 + station is left, which for an own record is 56 + station
@@ -35,7 +35,7 @@ placeOf x = x * 1073809408 / 16777216 % 256
 unfoldable pub frontOf : ℕ → List (List ℕ) → ℕ → ℕ
 frontOf n m i =
     cond (eqb (i / 8) 7)
-    (cond (ltb (i % 8) n) (16711681 + 256 * (i % 8)) 0)
+    (16711681 + 256 * (i % 8))
     (cond (mayStand n m (i / 64) (i % 8) (i / 8 % 8)) (i / 64 + (256 * (i % 8) + 65536 * (i / 8 % 8))) 458752)
 
 abbrev pub Fronts : ℕ → List (List ℕ) → List ℕ → Type 0

@@ -67,7 +67,7 @@ fn front(stands: bool, x: usize, other: u32) -> u32
 }
 
 // The first four bytes of the records that a header allows, as numbers, each in the place where it is looked up; elsewhere
-// a number that is looked up in another place.
+// a number that is looked up in another place. A station that the header lacks has no count, which shuts its records out.
 fn fronts(head: &[u8], n: u8) -> [u32; 256]
     requires { ⌜ length (now head) ≡ 512 ⌝ }
     ensures { λ r. ⌜ Fronts n (tableAt 8 (now (head .entry)) 32) r ⌝ }
@@ -76,11 +76,11 @@ fn fronts(head: &[u8], n: u8) -> [u32; 256]
     let mut r: [u32; 256] = [458752; 256];
     let mut p = 0;
     while p < 8 {
-        r[56 + p] = front(p < top, 16711681 + 256 * p, 0);
+        r[56 + p] = (16711681 + 256 * p) as u32;
         let mut s = 0;
         while s < 8 {
             let j = p * 8 + s;
-            let both = (s < top) & ((p < top) & (s != p));
+            let both = (p < top) & (s != p);
             let x = 256 * s + 65536 * p;
             r[128 + j] = front(both & (0 < head[32 + (s * 8 + p)]), 2 + x, 458752);
             r[192 + j] = front(both & (0 < head[32 + j]), 3 + x, 458752);

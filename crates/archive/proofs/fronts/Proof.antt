@@ -24,21 +24,20 @@ loop-holds c = (omega arith, filling-none (c .before .before .args .n) (now (c .
 
 loop2-holds : tie.Need-loop2-holds Inv-loop2 μ-loop2 Inv-loop μ-loop
 loop2-holds c =
-    let a = c .before .before .before .before .before .args in
-    let l = c .before .before .loop in
-    let x = rw (c .before .before .before .wide .ensures .0) at (c .front .ensures) in
-    let f = filling-own (a .n) (now (a .head)) (l .p) (l .p * 8) (l .r) _ (omega arith) (x ∙ own-front (a .n) (now (a .head)) (l .p) (omega arith)) (l .inv .1) in
+    let a = c .before .before .before .before .args in
+    let l = c .before .loop in
+    let f = filling-own (a .n) (now (a .head)) (l .p) (l .p * 8) (l .r) _ (omega arith) (own-front (a .n) (now (a .head)) (l .p) (omega arith)) (l .inv .1) in
     let e : l .p * 8 + 0 ≡ l .p * 8 = omega arith in
     (omega arith, rw e f)
 
 loop2-again : tie.Need-loop2-again Inv-loop2 μ-loop2 Inv-loop μ-loop
 loop2-again c =
-    let a = c .before .before .before .before .before .before .before .before .before .before .before .args in
-    let p = c .before .before .before .before .before .before .before .before .loop .p in
+    let a = c .before .before .before .before .before .before .before .before .before .before .args in
+    let p = c .before .before .before .before .before .before .before .loop .p in
     let l = c .before .before .before .before .before .loop2 in
-    let w = c .before .before .before .before .before .before .before .before .before .wide .ensures .0 in
-    let y = (rw w at (c .before .before .front2 .ensures)) ∙ sent-front (a .n) (now (a .head)) (l .s) p (omega arith) (omega arith) in
-    let z = (rw w at (c .front3 .ensures)) ∙ received-front (a .n) (now (a .head)) (l .s) p (omega arith) (omega arith) in
+    let w = c .before .before .before .before .before .before .before .before .wide .ensures .0 in
+    let y = (rw w at (c .before .before .front .ensures)) ∙ sent-front (a .n) (now (a .head)) (l .s) p (omega arith) (omega arith) in
+    let z = (rw w at (c .front2 .ensures)) ∙ received-front (a .n) (now (a .head)) (l .s) p (omega arith) (omega arith) in
     let f = filling-link (a .n) (now (a .head)) (p + 1) (p * 8 + l .s) (l .r) _ _ (omega arith) (omega arith) y z (l .inv .1) in
     let e : p * 8 + (l .s + 1) ≡ p * 8 + l .s + 1 = omega arith in
     (omega arith, rw e f)
@@ -46,7 +45,7 @@ loop2-again c =
 loop-again : tie.Need-loop-again Inv-loop2 μ-loop2 Inv-loop μ-loop
 loop-again c =
     let l = c .before .loop2 in
-    let p = c .before .before .before .before .loop .p in
+    let p = c .before .before .before .loop .p in
     let e : (p + 1) * 8 ≡ p * 8 + l .s = omega arith in
     (omega arith, rw e (l .inv .1))
 
@@ -65,11 +64,4 @@ fronts-spec =
     μ-loop2
     Inv-loop
     μ-loop
-    (λ c κs. search needs) loop-holds (λ c. omega arith) (λ c. omega arith) (λ c κs. omega arith)
-    (λ c. omega arith) (λ c. omega arith) (λ c. omega arith) loop2-holds (λ c. omega arith)
-    (λ c. omega arith) (λ c. omega arith) (λ c. omega arith) (λ c. omega arith) (λ c. omega arith)
-    (λ c. omega arith) (λ c. omega arith) (λ c. omega arith) (λ c. omega arith)
-    (λ c κs. omega arith) (λ c. omega arith) (λ c. omega arith) (λ c. omega arith)
-    (λ c. omega arith) (λ c. omega arith) (λ c. omega arith) (λ c κs. omega arith)
-    (λ c. omega arith) (λ c. omega arith) (λ c. omega arith) (λ c. omega arith) (λ c. omega arith)
-    loop2-again (λ c. omega arith) (λ c. omega arith) loop-again returns)
+    (λ c κs. search needs) loop-holds (λ c. omega arith) (λ c. omega arith) (λ c. omega arith) (λ c. omega arith) (λ c. omega arith) (λ c. omega arith) loop2-holds (λ c. omega arith) (λ c. omega arith) (λ c. omega arith) (λ c. omega arith) (λ c. omega arith) (λ c. omega arith) (λ c. omega arith) (λ c. omega arith) (λ c. omega arith) (λ c. omega arith) (λ c κs. omega arith) (λ c. omega arith) (λ c. omega arith) (λ c. omega arith) (λ c. omega arith) (λ c. omega arith) (λ c. omega arith) (λ c κs. omega arith) (λ c. omega arith) (λ c. omega arith) (λ c. omega arith) (λ c. omega arith) (λ c. omega arith) loop2-again (λ c. omega arith) (λ c. omega arith) loop-again returns)
