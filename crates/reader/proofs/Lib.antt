@@ -1,3 +1,4 @@
+pub mod Walk
 pub mod Laws
 pub mod Whole
 pub mod Made

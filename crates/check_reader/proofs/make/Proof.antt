@@ -3,18 +3,8 @@ use borrow.Author.Needs.{needs}
 use Rattle.check_reader.proofs.make.Statement.{statement}
 use Rattle.check_reader.proofs.make.Tie as tie
 
-abbrev Inv-loop : tie.InvT-loop
-Inv-loop n a₀ last b₀ left₀ a b left = (b ≤ last) × (last ≤ 3)
-
-abbrev μ-loop : tie.MeasureT-loop
-μ-loop n a₀ last b₀ left₀ a b left = last - b
-
 pub make-spec : {M : Type 1} → statement M
 make-spec =
     tie.close
-    (tie.spec
-    Inv-loop
-    μ-loop
-    (λ c κs. search needs) (λ c κs. search needs) (λ c. search needs) (λ c κs. search needs)
-    (λ c κs. search needs) (λ c. search needs) (λ c. search needs) (λ c. search needs)
-    (λ c. search needs) (λ c. search needs))
+    (tie.spec (λ n a₀ last b₀ left₀ a b left. (b ≤ last) × (last ≤ 3)) (λ n a₀ last b₀ left₀ a b left. last - b) (λ c κs. search needs) (λ c κs. search needs) (λ c. search needs)
+    (λ c κs. search needs) (λ c κs. search needs) (λ c. search needs) (λ c. search needs) (λ c. search needs) (λ c. search needs) (λ c. search needs))

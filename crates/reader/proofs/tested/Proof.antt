@@ -12,6 +12,4 @@ unfolding testedPart
 returns-2 c = rw (← c .before .before .test .ensures, c .before .if1 .left)
 
 pub tested-spec : {M : Type 1} → statement M
-tested-spec =
-    tie.close
-    (tie.spec (λ c κs. search needs) returns (λ c. search needs) (λ c. search needs) (λ c. search needs) returns-2)
+tested-spec = tie.close (tie.spec (λ c κs. search needs) returns (λ c. search needs) (λ c. search needs) (λ c. search needs) returns-2)
