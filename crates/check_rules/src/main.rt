@@ -93,7 +93,11 @@ fn only(i: usize, x: u16) -> [u16; 8]
 }
 
 fn run(name: &[u8], k: u64, n: u8, t: u16, allowances: [u16; 8], limits: [[u8; 8]; 8]) {
-    say(name, k, rules::network::network_rules(n, t, allowances, limits));
+    say(
+        name,
+        k,
+        rules::network::network_rules(n, t, allowances, limits),
+    );
 }
 
 // The ceiling at the greatest sum, and one below.
@@ -184,8 +188,16 @@ fn headers(k: usize, n: u8)
         t: 99,
         allowances: [0u16; 8],
     };
-    say(b"stations of a row", at, rules::network::setup_fits(h, chain(k)));
-    say(b"stations of a ring", at, rules::network::setup_fits(h, ring()));
+    say(
+        b"stations of a row",
+        at,
+        rules::network::setup_fits(h, chain(k)),
+    );
+    say(
+        b"stations of a ring",
+        at,
+        rules::network::setup_fits(h, ring()),
+    );
 }
 
 fn places() {

@@ -3,17 +3,8 @@ use borrow.Author.Needs.{needs}
 use Rattle.check_clock.proofs.places.Statement.{statement}
 use Rattle.check_clock.proofs.places.Tie as tie
 
-abbrev Inv-loop : tie.InvT-loop
-Inv-loop i₀ i = i ≤ 8
-
-abbrev μ-loop : tie.MeasureT-loop
-μ-loop i₀ i = 8 - i
-
 pub places-spec : {M : Type 1} → statement M
 places-spec =
     tie.close
-    (tie.spec
-    Inv-loop
-    μ-loop
-    (λ c. search needs) (λ c. search needs) (λ c κs. search needs) (λ c κs. search needs)
-    (λ c. search needs) (λ c. search needs) (λ c. search needs) (λ c. search needs))
+    (tie.spec (λ i₀ i. i ≤ 8) (λ i₀ i. 8 - i) (λ c. search needs) (λ c. search needs) (λ c κs. search needs) (λ c κs. search needs) (λ c. search needs) (λ c. search needs)
+    (λ c. search needs) (λ c. search needs))

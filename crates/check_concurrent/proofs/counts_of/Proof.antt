@@ -3,18 +3,8 @@ use borrow.Author.Needs.{needs}
 use Rattle.check_concurrent.proofs.counts_of.Statement.{statement}
 use Rattle.check_concurrent.proofs.counts_of.Tie as tie
 
-abbrev Inv-loop : tie.InvT-loop
-Inv-loop k m c₀ i₀ c i = i ≤ 8
-
-abbrev μ-loop : tie.MeasureT-loop
-μ-loop k m c₀ i₀ c i = 8 - i
-
 pub counts-of-spec : {M : Type 1} → statement M
 counts-of-spec =
     tie.close
-    (tie.spec
-    Inv-loop
-    μ-loop
-    (λ c. search needs) (λ c. search needs) (λ c. search needs) (λ c. search needs)
-    (λ c. search needs) (λ c. search needs) (λ c. search needs) (λ c. search needs)
-    (λ c. search needs) (λ c. search needs) (λ c. search needs) (λ c. search needs))
+    (tie.spec (λ k m c₀ i₀ c i. i ≤ 8) (λ k m c₀ i₀ c i. 8 - i) (λ c. search needs) (λ c. search needs) (λ c. search needs) (λ c. search needs) (λ c. search needs)
+    (λ c. search needs) (λ c. search needs) (λ c. search needs) (λ c. search needs) (λ c. search needs) (λ c. search needs) (λ c. search needs))

@@ -5,19 +5,9 @@ use borrow.Author.Needs.{needs}
 use Rattle.check_concurrent.proofs.fill.Statement.{statement}
 use Rattle.check_concurrent.proofs.fill.Tie as tie
 
-abbrev Inv-loop : tie.InvT-loop
-Inv-loop rs₀ first count j₀ rs j = (j ≤ count) × (length rs ≡ length rs₀)
-
-abbrev μ-loop : tie.MeasureT-loop
-μ-loop rs₀ first count j₀ rs j = count - j
-
 pub fill-spec : {M : Type 1} → statement M
 fill-spec =
     tie.close
-    (tie.spec
-    Inv-loop
-    μ-loop
-    (λ c. search needs) (λ c. search needs) (λ c. search needs) (λ c. search needs)
-    (λ c. search needs) (λ c. search needs) (λ c. search needs) (λ c κs. search needs)
-    (λ c κs. search needs) (λ c. search needs) (λ c. search needs) (λ c. search needs)
-    (λ c. search needs) (λ c. search needs))
+    (tie.spec (λ rs₀ first count j₀ rs j. (j ≤ count) × (length rs ≡ length rs₀)) (λ rs₀ first count j₀ rs j. count - j) (λ c. search needs) (λ c. search needs)
+    (λ c. search needs) (λ c. search needs) (λ c. search needs) (λ c. search needs) (λ c. search needs) (λ c κs. search needs) (λ c κs. search needs) (λ c. search needs)
+    (λ c. search needs) (λ c. search needs) (λ c. search needs) (λ c. search needs))

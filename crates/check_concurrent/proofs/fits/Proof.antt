@@ -3,13 +3,8 @@ use borrow.Author.Needs.{needs}
 use Rattle.check_concurrent.proofs.fits.Statement.{statement}
 use Rattle.check_concurrent.proofs.fits.Tie as tie
 
-abbrev Inv-loop : tie.InvT-loop
-Inv-loop a r places₀ places = places ≤ 10
-
-abbrev μ-loop : tie.MeasureT-loop
-μ-loop a r places₀ places = 10 - places
-
 pub fits-spec : {M : Type 1} → statement M
 fits-spec =
     tie.close
-    (tie.spec Inv-loop μ-loop (λ c. search needs) (λ c κs. search needs) (λ c. search needs) (λ c. search needs) (λ c. search needs) (λ c. search needs))
+    (tie.spec (λ a r places₀ places. places ≤ 10) (λ a r places₀ places. 10 - places) (λ c. search needs) (λ c κs. search needs) (λ c. search needs) (λ c. search needs)
+    (λ c. search needs) (λ c. search needs))

@@ -5,18 +5,8 @@ use borrow.Author.Needs.{needs}
 use Rattle.check_concurrent.proofs.make.Statement.{statement}
 use Rattle.check_concurrent.proofs.make.Tie as tie
 
-abbrev Inv-loop : tie.InvT-loop
-Inv-loop a₀ count n b₀ a b = (b ≤ n) × (length a ≡ length a₀)
-
-abbrev μ-loop : tie.MeasureT-loop
-μ-loop a₀ count n b₀ a b = n - b
-
 pub make-spec : {M : Type 1} → statement M
 make-spec =
     tie.close
-    (tie.spec
-    Inv-loop
-    μ-loop
-    (λ c κs. search needs) (λ c. search needs) (λ c. search needs) (λ c κs. search needs)
-    (λ c. search needs) (λ c. search needs) (λ c. search needs) (λ c. search needs)
-    (λ c. search needs))
+    (tie.spec (λ a₀ count n b₀ a b. (b ≤ n) × (length a ≡ length a₀)) (λ a₀ count n b₀ a b. n - b) (λ c κs. search needs) (λ c. search needs) (λ c. search needs)
+    (λ c κs. search needs) (λ c. search needs) (λ c. search needs) (λ c. search needs) (λ c. search needs) (λ c. search needs))

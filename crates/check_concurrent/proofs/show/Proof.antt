@@ -4,18 +4,8 @@ use borrow.Author.Needs.{needs}
 use Rattle.check_concurrent.proofs.show.Statement.{statement}
 use Rattle.check_concurrent.proofs.show.Tie as tie
 
-abbrev Inv-loop : tie.InvT-loop
-Inv-loop list i₀ t3 i = i ≤ length list
-
-abbrev μ-loop : tie.MeasureT-loop
-μ-loop list i₀ t3 i = length list - i
-
 pub show-spec : {M : Type 1} → statement M
 show-spec =
     tie.close
-    (tie.spec
-    Inv-loop
-    μ-loop
-    (λ c. search needs) (λ c. search needs) (λ c κs. search needs) (λ c. search needs)
-    (λ c. search needs) (λ c κs. search needs) (λ c. search needs) (λ c. search needs)
-    (λ c. search needs) (λ c. search needs))
+    (tie.spec (λ list i₀ t3 i. i ≤ length list) (λ list i₀ t3 i. length list - i) (λ c. search needs) (λ c. search needs) (λ c κs. search needs) (λ c. search needs)
+    (λ c. search needs) (λ c κs. search needs) (λ c. search needs) (λ c. search needs) (λ c. search needs) (λ c. search needs))

@@ -10,7 +10,5 @@ part-refusals-end c = simp length-set (omega arith)
 pub spoilt-spec : {M : Type 1} → statement M
 spoilt-spec =
     tie.close
-    (tie.spec
-    (λ c. search needs) (λ c κs. search needs) (λ c κs. search needs) (λ c κs. search needs)
-    (λ c. search needs) (λ c. search needs) (λ c. search needs) part-refusals-end
-    (λ c κs. search needs) (λ c. search needs) (λ c. search needs))
+    (tie.spec (λ c. search needs) (λ c κs. search needs) (λ c κs. search needs) (λ c κs. search needs) (λ c. search needs) (λ c. search needs) (λ c. search needs)
+    part-refusals-end (λ c κs. search needs) (λ c. search needs) (λ c. search needs))

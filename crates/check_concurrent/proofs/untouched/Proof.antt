@@ -18,8 +18,5 @@ loop-again c = ⊎-elim (λ w. (omega arith, omega arith)) (λ w. (omega arith, 
 pub untouched-spec : {M : Type 1} → statement M
 untouched-spec =
     tie.close
-    (tie.spec
-    Inv-loop
-    μ-loop
-    (λ c. search needs) (λ c. search needs) (λ c. search needs) (λ c. search needs)
-    (λ c. search needs) (λ c. search needs) loop-again (λ c. search needs))
+    (tie.spec Inv-loop μ-loop (λ c. search needs) (λ c. search needs) (λ c. search needs) (λ c. search needs) (λ c. search needs) (λ c. search needs) loop-again
+    (λ c. search needs))

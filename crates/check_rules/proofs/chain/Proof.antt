@@ -3,13 +3,8 @@ use borrow.Author.Needs.{needs}
 use Rattle.check_rules.proofs.chain.Statement.{statement}
 use Rattle.check_rules.proofs.chain.Tie as tie
 
-abbrev Inv-loop : tie.InvT-loop
-Inv-loop n m₀ i₀ m i = (1 ≤ i) × (n ≤ 8)
-
-abbrev μ-loop : tie.MeasureT-loop
-μ-loop n m₀ i₀ m i = n - i
-
 pub chain-spec : {M : Type 1} → statement M
 chain-spec =
     tie.close
-    (tie.spec Inv-loop μ-loop (λ c. search needs) (λ c. search needs) (λ c κs. search needs) (λ c. search needs) (λ c. search needs) (λ c. search needs) (λ c. search needs))
+    (tie.spec (λ n m₀ i₀ m i. (1 ≤ i) × (n ≤ 8)) (λ n m₀ i₀ m i. n - i) (λ c. search needs) (λ c. search needs) (λ c κs. search needs) (λ c. search needs) (λ c. search needs)
+    (λ c. search needs) (λ c. search needs))

@@ -3,18 +3,8 @@ use borrow.Author.Needs.{needs}
 use Rattle.check_rules.proofs.places.Statement.{statement}
 use Rattle.check_rules.proofs.places.Tie as tie
 
-abbrev Inv-loop : tie.InvT-loop
-Inv-loop k₀ k = k ≤ 8
-
-abbrev μ-loop : tie.MeasureT-loop
-μ-loop k₀ k = 8 - k
-
 pub places-spec : {M : Type 1} → statement M
 places-spec =
     tie.close
-    (tie.spec
-    Inv-loop
-    μ-loop
-    (λ c. search needs) (λ c κs. search needs) (λ c κs. search needs) (λ c κs. search needs)
-    (λ c κs. search needs) (λ c κs. search needs) (λ c. search needs) (λ c κs. search needs)
-    (λ c. search needs) (λ c. search needs) (λ c. search needs) (λ c. search needs))
+    (tie.spec (λ k₀ k. k ≤ 8) (λ k₀ k. 8 - k) (λ c. search needs) (λ c κs. search needs) (λ c κs. search needs) (λ c κs. search needs) (λ c κs. search needs)
+    (λ c κs. search needs) (λ c. search needs) (λ c κs. search needs) (λ c. search needs) (λ c. search needs) (λ c. search needs) (λ c. search needs))

@@ -3,13 +3,8 @@ use borrow.Author.Needs.{needs}
 use Rattle.check_rules.proofs.spokes.Statement.{statement}
 use Rattle.check_rules.proofs.spokes.Tie as tie
 
-abbrev Inv-loop : tie.InvT-loop
-Inv-loop k m₀ i₀ m i = i ≤ 8
-
-abbrev μ-loop : tie.MeasureT-loop
-μ-loop k m₀ i₀ m i = 8 - i
-
 pub spokes-spec : {M : Type 1} → statement M
 spokes-spec =
     tie.close
-    (tie.spec Inv-loop μ-loop (λ c. search needs) (λ c κs. search needs) (λ c. search needs) (λ c. search needs) (λ c. search needs) (λ c. search needs))
+    (tie.spec (λ k m₀ i₀ m i. i ≤ 8) (λ k m₀ i₀ m i. 8 - i) (λ c. search needs) (λ c κs. search needs) (λ c. search needs) (λ c. search needs) (λ c. search needs)
+    (λ c. search needs))

@@ -3,17 +3,8 @@ use borrow.Author.Needs.{needs}
 use Rattle.check_vectors.proofs.sweeps.all_moves.Statement.{statement}
 use Rattle.check_vectors.proofs.sweeps.all_moves.Tie as tie
 
-abbrev Inv-loop : tie.InvT-loop
-Inv-loop kind good n₀ by₀ n by = (n ≤ by * 512) × (by ≤ 256)
-
-abbrev μ-loop : tie.MeasureT-loop
-μ-loop kind good n₀ by₀ n by = 256 - by
-
 pub all-moves-spec : {M : Type 1} → statement M
 all-moves-spec =
     tie.close
-    (tie.spec
-    Inv-loop
-    μ-loop
-    (λ c. search needs) (λ c. search needs) (λ c κs. search needs) (λ c. search needs)
-    (λ c. search needs) (λ c. search needs) (λ c. search needs) (λ c. search needs))
+    (tie.spec (λ kind good n₀ by₀ n by. (n ≤ by * 512) × (by ≤ 256)) (λ kind good n₀ by₀ n by. 256 - by) (λ c. search needs) (λ c. search needs) (λ c κs. search needs)
+    (λ c. search needs) (λ c. search needs) (λ c. search needs) (λ c. search needs) (λ c. search needs))
