@@ -1,7 +1,7 @@
 -- The calls on an archive: how great a count can be, a found record, and an unordered list. Assumes nothing.
 use Prim.Native.Nat.{ℕ, _+_, _*_, _-_, _≤_, _<_}
 use native.Mathlib.Omega.{arith}
-use mathlib.Core.Path.{_≡_, refl, ap, subst, _∙_}
+use mathlib.Core.Path.{_≡_, refl, ap, _∙_}
 use mathlib.Core.List.{List}
 use mathlib.Core.Bool.{Bool, true, false, cond}
 use lib.Dec.{eqb, ltb}
@@ -13,11 +13,11 @@ use Rattle.archive.specs.Archive.{blockOf, blocks, archiveTest, records, record
 use Rattle.archive.specs.declared.Counted.the-variants.{Records, Refused as NoArchive}
 use Rattle.archive.proofs.Laws.{test-blocks, block-parts}
 use Rattle.archive.proofs.Tested.{record-length}
-use Rattle.concurrent.specs.Unordered.{isUnordered, unorderedCount, unorderedAnswer, ListAfter, UnorderedList}
+use Rattle.concurrent.specs.Unordered.{isUnordered, unorderedCount, unorderedAnswer, UnorderedList}
 use Rattle.concurrent.specs.declared.Listed.{Listed}
 use Rattle.concurrent.specs.declared.Listed.the-variants.{Count, Refused as NoList}
 use Rattle.concurrent.proofs.Below.{count-most}
-use Rattle.melontime.specs.Numbers.{countedNumber, listedNumber}
+use Rattle.melontime.specs.Numbers.{greatest, countedNumber, listedNumber}
 use Rattle.melontime.specs.Archives.{Listing}
 
 -- at most 15 records to a block
@@ -33,19 +33,19 @@ records-most a h = go (eqb (blocks a) 0) refl
         omega (arith, test-blocks a h)
 
 -- so that a count's number is one of 64 bits
-pub counted-small : (a : List ℕ) → length a ≤ 18446744073709551615 → countedNumber (countRecords a) ≤ 18446744073709551615
+pub counted-small : (a : List ℕ) → length a ≤ greatest → countedNumber (countRecords a) ≤ greatest
 unfolding countRecords
 counted-small a h = go (archiveTest a) refl
   where
-    go : (t : Bool) → archiveTest a ≡ t → countedNumber (cond t (Records (records a)) (NoArchive 1)) ≤ 18446744073709551615
+    go : (t : Bool) → archiveTest a ≡ t → countedNumber (cond t (Records (records a)) (NoArchive 1)) ≤ greatest
     go true e = omega (arith, records-most a e)
     go false e = omega arith
 
-pub listed-small : (a : List ℕ) (k places : ℕ) → length a ≤ 18446744073709551615 → listedNumber (unorderedAnswer a k places) ≤ 18446744073709551615
+pub listed-small : (a : List ℕ) (k places : ℕ) → length a ≤ greatest → listedNumber (unorderedAnswer a k places) ≤ greatest
 unfolding unorderedAnswer unorderedCount
 listed-small a k places h = go (archiveTest a) (ltb k (records a)) (ltb places (unorderedCount a k)) refl
   where
-    go : (t u v : Bool) → archiveTest a ≡ t → listedNumber (cond t (cond u (cond v (NoList 11) (Count (unorderedCount a k))) (NoList 12)) (NoList 1)) ≤ 18446744073709551615
+    go : (t u v : Bool) → archiveTest a ≡ t → listedNumber (cond t (cond u (cond v (NoList 11) (Count (unorderedCount a k))) (NoList 12)) (NoList 1)) ≤ greatest
     go true true false e = omega (arith, records-most a e, count-most (isUnordered a k) (records a))
     go true true true e = omega arith
     go true false v e = omega arith
@@ -69,5 +69,5 @@ unfolding foundRecord
 found-is a k e = rw (eq-eqb _ 0 e)
 
 -- ---- an unordered list
-pub listing : (a : List ℕ) (k : ℕ) (before after : List ℕ) (q : Listed) (r : ℕ) → UnorderedList a k before after q → r ≡ listedNumber q → Listing a k before after r
-listing a k before after q r u e = record { number = e ∙ ap (λ (x : Listed). listedNumber x) (u .answers); leaves = subst (λ (x : Listed). ListAfter a k before after x) (u .answers) (u .leaves) }
+pub listing : {a : List ℕ} {k : ℕ} {before after : List ℕ} {q : Listed} {r : ℕ} → UnorderedList a k before after q → r ≡ listedNumber q → Listing a k before after r
+listing u e = record { number = e ∙ ap (λ (x : Listed). listedNumber x) (u .answers); leaves = rw (u .answers) at (u .leaves) }

@@ -1,17 +1,21 @@
--- No two different answers of one call share a number. Assumes nothing.
-use Prim.Native.Nat.{ℕ, _<_, _+_, _*_}
+-- No two different answers of one call share a number: an answer is read back from its number. Assumes nothing.
+use Prim.Native.Nat.{ℕ, _<_, _≤_, _+_, _*_, _-_, _/_, _%_}
 use native.Mathlib.Omega.{arith}
-use mathlib.Core.Path.{_≡_, refl, sym, ap, subst, _∙_}
+use mathlib.Core.Path.{_≡_, refl, sym, ap, _∙_}
 use mathlib.Core.List.{List, [], _∷_}
 use mathlib.Core.Bool.{Bool, true, false, not, cond, _&&_}
 use lib.Dec.{eqb, ltb}
+use borrow.Author.Tests.{lt-ltb, le-ltb}
 use Rattle.clock.specs.declared.Verdict.{Verdict}
 use Rattle.clock.specs.declared.Verdict.the-variants.{Before, After, Same, Unordered}
-use Rattle.clock.specs.Order.{verdictOf}
 use Rattle.record.specs.Record.{parseRecord, wellMadeRecord}
 use Rattle.verdict.specs.Compare.{verdictOn, verdictOfBytes}
 use Rattle.verdict.specs.declared.Compared.{Compared}
 use Rattle.verdict.specs.declared.Compared.the-variants.{Ordered, Refused}
+use Rattle.entries.specs.declared.EntriesRead.{EntriesRead}
+use Rattle.entries.specs.declared.EntriesRead.the-variants.{Block, Refused as NoBlock}
+use Rattle.entries.specs.Entries.{countOf, numberOf, wellMadeEntries, readEntries}
+use Rattle.entries.proofs.Laws.{well-made-count}
 use Rattle.archive.specs.Archive.{archiveTest, records, countRecords}
 use Rattle.archive.specs.declared.Counted.{Counted}
 use Rattle.archive.specs.declared.Counted.the-variants.{Records, Refused as NoArchive}
@@ -24,10 +28,29 @@ use Rattle.reset.specs.Clock.{vector}
 use Rattle.reset.specs.State.{Mode, normal, mute, standBy, Item, message, resetReq, resetDone, State, linkAt}
 use Rattle.reset.specs.Steps.{Step, enter, send, recv, start, Answer, refused, entry, modeAfter, Outcome, guard, bounded, inBounds, receive, step}
 use Rattle.area.specs.Layout.{configAt, stateAt, test}
-use Rattle.area_calls.specs.Calls.{stepOn, imaged, RestAnswer, yes, no, restOn, restRefused}
-use Rattle.station.specs.Image.{modeByte}
-use Rattle.melontime.specs.Numbers.{stepNumber, restNumber, orderNumber, verdictNumber, countedNumber, listedNumber}
+use Rattle.area_calls.specs.Calls.{AreaStep, stepOn, RestAnswer, yes, no, restOn, restRefused}
+use Rattle.station.specs.Image.{modeByte, modeOf}
+use Rattle.steps.specs.Answers.{modeCode, steppedOf}
+use Rattle.steps.specs.declared.answer.Answer.{Answer as CodeAnswer}
+use Rattle.steps.specs.declared.answer.Answer.the-variants.{Refused as NotDone, Entered, InMode}
+use Rattle.melontime.specs.Numbers.{entryMade, tells, modes, counts, stepNumber, restNumber, orderNumber, verdictNumber, blockNumber, countedNumber, listedNumber}
+use Rattle.melontime.proofs.Tests.{by-test}
 
+-- the answer x is read back from its number; so one number is one answer
+abbrev Back : {A : Type 0} → (A → ℕ) → (ℕ → A) → A → Type 0
+Back number answer x = answer (number x) ≡ x
+
+one : {A : Type 0} (number : A → ℕ) (answer : ℕ → A) (x y : A) → Back number answer x → Back number answer y → number x ≡ number y → x ≡ y
+one number answer x y p q e = sym p ∙ (ap answer e ∙ q)
+
+-- what is told beside 1,000
+told-low : (n : ℕ) → ltb (tells + n) tells ≡ false
+told-low n = le-ltb (tells + n) tells (omega arith)
+
+told-rest : (n : ℕ) → tells + n - tells ≡ n
+told-rest n = omega arith
+
+-- ---- steps
 -- a refusal's number is below 10
 abbrev pub Low : Answer → Type 0
 Low (refused k) = k < 10
@@ -36,15 +59,7 @@ Low (modeAfter i m p) = Unit {0}
 
 -- the same answer, but for the record of an entry, which is written beside the number, and the station, which the call names
 abbrev pub Alike : Answer → Answer → Type 0
-Alike (refused k) (refused l) = k ≡ l
-Alike (entry e) (entry f) = Unit {0}
-Alike (modeAfter i m p) (modeAfter j n q) = (m ≡ n) × (p ≡ q)
-Alike (refused k) (entry f) = ⊥
-Alike (refused k) (modeAfter j n q) = ⊥
-Alike (entry e) (refused l) = ⊥
-Alike (entry e) (modeAfter j n q) = ⊥
-Alike (modeAfter i m p) (refused l) = ⊥
-Alike (modeAfter i m p) (entry f) = ⊥
+Alike o q = steppedOf o .answer ≡ steppedOf q .answer
 
 guarded : (s : State vector) (t : Bool) (k : ℕ) (o : Outcome vector) → k < 10 → Low (o .answer) → Low (guard s t k o .answer)
 unfolding guard
@@ -70,38 +85,34 @@ stepped c s (start i) = guarded s _ 4 _ (omega arith) (guarded s _ 5 _ (omega ar
 -- what a step on an area can answer
 pub step-low : (p : Step) (a : List ℕ) → Low (stepOn p a .answer)
 unfolding stepOn
-step-low p a = go (test a)
-  where
-    go : (t : Bool) → Low (cond t (imaged (configAt a) (step (configAt a) (stateAt a) p)) (record { answer = refused 2; area = a }) .answer)
-    go true = stepped (configAt a) (stateAt a) p
-    go false = omega arith
+step-low p a = by-test (λ (o : AreaStep). Low (o .answer)) (test a) (stepped (configAt a) (stateAt a) p) (omega arith)
 
-modes : (m n : Mode) (p q : ℕ) → 1000 + (4 * p + modeByte m) ≡ 1000 + (4 * q + modeByte n) → (m ≡ n) × (p ≡ q)
-modes normal normal p q e = (refl, omega arith)
-modes mute mute p q e = (refl, omega arith)
-modes standBy standBy p q e = (refl, omega arith)
-modes normal mute p q e = absurd (omega arith)
-modes normal standBy p q e = absurd (omega arith)
-modes mute normal p q e = absurd (omega arith)
-modes mute standBy p q e = absurd (omega arith)
-modes standBy normal p q e = absurd (omega arith)
-modes standBy mute p q e = absurd (omega arith)
+abbrev stepAt : ℕ → CodeAnswer
+stepAt k = cond (ltb k entryMade) (NotDone k) (cond (ltb k tells) Entered (InMode (modeCode (modeOf ((k - tells) % modes))) ((k - tells) / modes)))
 
--- answers with refusals below 10 and one number are alike
-pub one-answer : (o q : Answer) → Low o → Low q → stepNumber o ≡ stepNumber q → Alike o q
-one-answer (refused k) (refused l) a b e = e
-one-answer (entry f) (entry g) a b e = tt
-one-answer (modeAfter i m p) (modeAfter j n q) a b e = modes m n p q e
-one-answer (refused k) (entry g) a b e = omega arith
-one-answer (refused k) (modeAfter j n q) a b e = omega arith
-one-answer (entry f) (refused l) a b e = omega arith
-one-answer (entry f) (modeAfter j n q) a b e = omega arith
-one-answer (modeAfter i m p) (refused l) a b e = omega arith
-one-answer (modeAfter i m p) (entry g) a b e = omega arith
+mode-back : (m : Mode) → modeOf (modeByte m) ≡ m
+mode-back normal = refl
+mode-back mute = refl
+mode-back standBy = refl
 
--- steps: whatever the steps and the areas, one number is one answer
+mode-small : (m : Mode) → modeByte m < 4
+mode-small normal = omega arith
+mode-small mute = omega arith
+mode-small standBy = omega arith
+
+step-back : (o : Answer) → Low o → stepAt (stepNumber o) ≡ steppedOf o .answer
+step-back (refused k) l = rw (lt-ltb k entryMade (omega arith))
+step-back (entry e) l = refl
+step-back (modeAfter i m p) l =
+    let b = modeByte m in
+    let h = mode-small m in
+    let f : (modes * p + b) % modes ≡ b = omega arith in
+    let g : (modes * p + b) / modes ≡ p = omega arith in
+    rw (le-ltb (tells + (modes * p + b)) entryMade (omega arith), told-low (modes * p + b), told-rest (modes * p + b), f, g, mode-back m)
+
+-- whatever the steps and the areas, one number is one answer
 pub steps-distinct : (p q : Step) (a b : List ℕ) → stepNumber (stepOn p a .answer) ≡ stepNumber (stepOn q b .answer) → Alike (stepOn p a .answer) (stepOn q b .answer)
-steps-distinct p q a b = one-answer (stepOn p a .answer) (stepOn q b .answer) (step-low p a) (step-low q b)
+steps-distinct p q a b e = sym (step-back (stepOn p a .answer) (step-low p a)) ∙ (ap stepAt e ∙ step-back (stepOn q b .answer) (step-low q b))
 
 -- no step on an area answers 11, the refusal of a record area
 eleven-apart : (o : Answer) → Low o → stepNumber o ≡ 11 → ⊥
@@ -113,122 +124,77 @@ pub never-eleven : (p : Step) (a : List ℕ) → stepNumber (stepOn p a .answer)
 never-eleven p a = eleven-apart (stepOn p a .answer) (step-low p a)
 
 -- ---- rest
-abbrev pub LowRest : RestAnswer → Type 0
-LowRest (restRefused k) = k < 100
-LowRest yes = Unit {0}
-LowRest no = Unit {0}
+abbrev restAt : ℕ → RestAnswer
+restAt k = cond (eqb k (restNumber yes)) yes (cond (eqb k (restNumber no)) no (restRefused k))
 
-rest-low : (a : List ℕ) → LowRest (restOn a)
+rest-back : (a : List ℕ) → Back restNumber restAt (restOn a)
 unfolding restOn
-rest-low a = go (test a) (quiescent (configAt a) (stateAt a))
-  where
-    go : (t q : Bool) → LowRest (cond t (cond q yes no) (restRefused 2))
-    go true true = tt
-    go true false = tt
-    go false q = omega arith
-
-one-rest : (x y : RestAnswer) → LowRest x → LowRest y → restNumber x ≡ restNumber y → x ≡ y
-one-rest yes yes a b e = refl
-one-rest no no a b e = refl
-one-rest (restRefused k) (restRefused l) a b e = ap restRefused e
-one-rest yes no a b e = absurd (omega arith)
-one-rest yes (restRefused l) a b e = absurd (omega arith)
-one-rest no yes a b e = absurd (omega arith)
-one-rest no (restRefused l) a b e = absurd (omega arith)
-one-rest (restRefused k) yes a b e = absurd (omega arith)
-one-rest (restRefused k) no a b e = absurd (omega arith)
+rest-back a = by-test (Back restNumber restAt) (test a) (by-test (Back restNumber restAt) (quiescent (configAt a) (stateAt a)) refl refl) refl
 
 pub rests-distinct : (a b : List ℕ) → restNumber (restOn a) ≡ restNumber (restOn b) → restOn a ≡ restOn b
-rests-distinct a b = one-rest (restOn a) (restOn b) (rest-low a) (rest-low b)
+rests-distinct a b = one restNumber restAt _ _ (rest-back a) (rest-back b)
 
 -- ---- verdicts
-abbrev pub LowVerdict : Compared → Type 0
-LowVerdict (Ordered v) = Unit {0}
-LowVerdict (Refused k) = k < 100
+abbrev verdictAt : ℕ → Compared
+verdictAt k = cond (eqb k (orderNumber Before)) (Ordered Before) (cond (eqb k (orderNumber After)) (Ordered After) (cond (eqb k (orderNumber Same)) (Ordered Same) (cond (eqb k (orderNumber Unordered)) (Ordered Unordered) (Refused k))))
 
-verdict-low : (a b : List ℕ) → LowVerdict (verdictOn a b)
-unfolding verdictOn verdictOfBytes
-verdict-low a b = go (wellMadeRecord a && wellMadeRecord b) (eqb (parseRecord a .phase) (parseRecord b .phase)) (verdictOf (parseRecord a .counts) (parseRecord b .counts))
-  where
-    go : (t q : Bool) (v : Verdict) → LowVerdict (cond t (cond q (Ordered v) (Refused 10)) (Refused 1))
-    go true true v = tt
-    go true false v = omega arith
-    go false q v = omega arith
-
--- the verdict of a number, so that no two verdicts share one
-abbrev orderOf : ℕ → Verdict
-orderOf k = cond (eqb k 100) Before (cond (eqb k 101) After (cond (eqb k 102) Same Unordered))
-
-order-back : (v : Verdict) → orderOf (orderNumber v) ≡ v
+order-back : (v : Verdict) → verdictAt (orderNumber v) ≡ Ordered v
 order-back Before = refl
 order-back After = refl
 order-back Same = refl
 order-back Unordered = refl
 
-orders : (v w : Verdict) → orderNumber v ≡ orderNumber w → v ≡ w
-orders v w e = sym (order-back v) ∙ ap orderOf e ∙ order-back w
-
-high : (v : Verdict) → orderNumber v < 100 → ⊥
-high Before h = omega arith
-high After h = omega arith
-high Same h = omega arith
-high Unordered h = omega arith
-
-one-verdict : (x y : Compared) → LowVerdict x → LowVerdict y → verdictNumber x ≡ verdictNumber y → x ≡ y
-one-verdict (Ordered v) (Ordered w) a b e = ap (λ (x : Verdict). Ordered x) (orders v w e)
-one-verdict (Refused k) (Refused l) a b e = ap (λ (x : ℕ). Refused x) e
-one-verdict (Ordered v) (Refused l) a b e = absurd (high v (subst (λ (x : ℕ). x < 100) (sym e) b))
-one-verdict (Refused k) (Ordered w) a b e = absurd (high w (subst (λ (x : ℕ). x < 100) e a))
+verdict-back : (a b : List ℕ) → Back verdictNumber verdictAt (verdictOn a b)
+unfolding verdictOn verdictOfBytes
+verdict-back a b =
+    by-test (Back verdictNumber verdictAt) (wellMadeRecord a && wellMadeRecord b)
+    (by-test (Back verdictNumber verdictAt) (eqb (parseRecord a .phase) (parseRecord b .phase)) (order-back _) refl) refl
 
 pub verdicts-distinct : (a b c d : List ℕ) → verdictNumber (verdictOn a b) ≡ verdictNumber (verdictOn c d) → verdictOn a b ≡ verdictOn c d
-verdicts-distinct a b c d = one-verdict (verdictOn a b) (verdictOn c d) (verdict-low a b) (verdict-low c d)
+verdicts-distinct a b c d = one verdictNumber verdictAt _ _ (verdict-back a b) (verdict-back c d)
 
 -- ---- an entries block read, whose count is at most 15
-pub one-block : (m n j k : ℕ) → j < 16 → k < 16 → 1000 + (16 * m + j) ≡ 1000 + (16 * n + k) → (m ≡ n) × (j ≡ k)
-one-block m n j k h l e = (omega arith, omega arith)
+abbrev blockAt : ℕ → EntriesRead
+blockAt k = cond (ltb k tells) (NoBlock k) (Block ((k - tells) / counts) ((k - tells) % counts))
+
+block-back : (a : List ℕ) → Back blockNumber blockAt (readEntries a)
+unfolding readEntries
+block-back a = go (wellMadeEntries a) refl
+  where
+    go : (t : Bool) → wellMadeEntries a ≡ t → Back blockNumber blockAt (cond t (Block (numberOf a) (countOf a)) (NoBlock 1))
+    go true h =
+        let n : ℕ = numberOf a in
+        let k : ℕ = countOf a in
+        let z : k ≤ 15 = well-made-count a h .1 in
+        let f : (counts * n + k) / counts ≡ n = omega arith in
+        let g : (counts * n + k) % counts ≡ k = omega arith in
+        rw (told-low (counts * n + k), told-rest (counts * n + k), f, g)
+    go false h = refl
+
+pub blocks-distinct : (a b : List ℕ) → blockNumber (readEntries a) ≡ blockNumber (readEntries b) → readEntries a ≡ readEntries b
+blocks-distinct a b = one blockNumber blockAt _ _ (block-back a) (block-back b)
 
 -- ---- counts, which start at 1,000
-abbrev LowCounted : Counted → Type 0
-LowCounted (Records n) = Unit {0}
-LowCounted (NoArchive k) = k < 1000
+abbrev countedAt : ℕ → Counted
+countedAt k = cond (ltb k tells) (NoArchive k) (Records (k - tells))
 
-counted-low : (a : List ℕ) → LowCounted (countRecords a)
+counted-back : (a : List ℕ) → Back countedNumber countedAt (countRecords a)
 unfolding countRecords
-counted-low a = go (archiveTest a)
-  where
-    go : (t : Bool) → LowCounted (cond t (Records (records a)) (NoArchive 1))
-    go true = tt
-    go false = omega arith
-
-one-count : (x y : Counted) → LowCounted x → LowCounted y → countedNumber x ≡ countedNumber y → x ≡ y
-one-count (Records m) (Records n) a b e = ap (λ (x : ℕ). Records x) (omega arith)
-one-count (NoArchive k) (NoArchive l) a b e = ap (λ (x : ℕ). NoArchive x) e
-one-count (Records m) (NoArchive l) a b e = absurd (omega arith)
-one-count (NoArchive k) (Records n) a b e = absurd (omega arith)
+counted-back a = by-test (Back countedNumber countedAt) (archiveTest a) (rw (told-low (records a), told-rest (records a))) refl
 
 pub counts-distinct : (a b : List ℕ) → countedNumber (countRecords a) ≡ countedNumber (countRecords b) → countRecords a ≡ countRecords b
-counts-distinct a b = one-count (countRecords a) (countRecords b) (counted-low a) (counted-low b)
+counts-distinct a b = one countedNumber countedAt _ _ (counted-back a) (counted-back b)
 
 -- ---- unordered lists, whose counts start at 1,000 too
-abbrev LowListed : Listed → Type 0
-LowListed (Count n) = Unit {0}
-LowListed (NoList k) = k < 1000
+abbrev listedAt : ℕ → Listed
+listedAt k = cond (ltb k tells) (NoList k) (Count (k - tells))
 
-listed-low : (a : List ℕ) (k places : ℕ) → LowListed (unorderedAnswer a k places)
+listed-back : (a : List ℕ) (k places : ℕ) → Back listedNumber listedAt (unorderedAnswer a k places)
 unfolding unorderedAnswer
-listed-low a k places = go (archiveTest a) (ltb k (records a)) (ltb places (unorderedCount a k))
-  where
-    go : (t u v : Bool) → LowListed (cond t (cond u (cond v (NoList 11) (Count (unorderedCount a k))) (NoList 12)) (NoList 1))
-    go true true true = omega arith
-    go true true false = tt
-    go true false v = omega arith
-    go false u v = omega arith
-
-one-list : (x y : Listed) → LowListed x → LowListed y → listedNumber x ≡ listedNumber y → x ≡ y
-one-list (Count m) (Count n) a b e = ap (λ (x : ℕ). Count x) (omega arith)
-one-list (NoList k) (NoList l) a b e = ap (λ (x : ℕ). NoList x) e
-one-list (Count m) (NoList l) a b e = absurd (omega arith)
-one-list (NoList k) (Count n) a b e = absurd (omega arith)
+listed-back a k places =
+    by-test (Back listedNumber listedAt) (archiveTest a)
+    (by-test (Back listedNumber listedAt) (ltb k (records a))
+    (by-test (Back listedNumber listedAt) (ltb places (unorderedCount a k)) refl (rw (told-low (unorderedCount a k), told-rest (unorderedCount a k)))) refl) refl
 
 pub lists-distinct : (a b : List ℕ) (j k p q : ℕ) → listedNumber (unorderedAnswer a j p) ≡ listedNumber (unorderedAnswer b k q) → unorderedAnswer a j p ≡ unorderedAnswer b k q
-lists-distinct a b j k p q = one-list (unorderedAnswer a j p) (unorderedAnswer b k q) (listed-low a j p) (listed-low b k q)
+lists-distinct a b j k p q = one listedNumber listedAt _ _ (listed-back a j p) (listed-back b k q)

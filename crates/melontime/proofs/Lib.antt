@@ -1,5 +1,5 @@
+pub mod Tests
 pub mod Laws
-pub mod Blocks
 pub mod Headers
 pub mod Archives
 pub mod Distinct

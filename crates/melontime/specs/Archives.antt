@@ -9,13 +9,13 @@ use Rattle.codec.specs.Splice.{splice}
 use Rattle.codec.specs.Written.{Written, refused, wrote}
 use Rattle.archive.specs.Archive.{findRecord, foundRecord}
 use Rattle.concurrent.specs.Unordered.{unorderedAnswer, ListAfter}
-use Rattle.melontime.specs.Numbers.{listedNumber}
+use Rattle.melontime.specs.Numbers.{recordLength, areaLength, listedNumber}
 
 -- a record that is not found is refused as the archive refuses it, an area of under 32 bytes is 11; the rest of an area is left
 unfoldable pub recordFound : List ℕ → ℕ → List ℕ → Written
 recordFound a k d =
     cond (eqb (findRecord a k) 0)
-    (cond (ltb (length d) 32) (refused 11 d) (wrote (splice d 0 (foundRecord a k))))
+    (cond (ltb (length d) recordLength) (refused areaLength d) (wrote (splice d 0 (foundRecord a k))))
     (refused (findRecord a k) d)
 
 -- the call of record k's unordered list returned r, and left the list as `after`

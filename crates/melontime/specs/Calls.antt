@@ -10,7 +10,7 @@ use Rattle.reset.specs.Steps.{Step, Answer, refused, entry, modeAfter}
 use Rattle.steps.specs.Answers.{recordOf}
 use Rattle.area_calls.specs.Calls.{AreaStep, stepOn}
 use Rattle.steps.specs.declared.answer.Stepped.{Stepped}
-use Rattle.melontime.specs.Numbers.{stepNumber, isEntry}
+use Rattle.melontime.specs.Numbers.{recordLength, areaLength, stepNumber, isEntry}
 
 -- an accepted entry writes its record; every other answer leaves the 32 bytes
 abbrev pub recordAfter : List ℕ → Answer → List ℕ
@@ -29,7 +29,7 @@ told o d = record { number = stepNumber (o .answer); area = o .area; event = rec
 
 -- a record area of another length than 32 is 11, tried first
 unfoldable pub hostStep : Step → List ℕ → List ℕ → HostStep
-hostStep p a d = cond (eqb (length d) 32) (told (stepOn p a) d) (record { number = 11; area = a; event = d })
+hostStep p a d = cond (eqb (length d) recordLength) (told (stepOn p a) d) (record { number = areaLength; area = a; event = d })
 
 -- the call of step p returned r, and left area b and record bytes f
 pub record Returns (p : Step) (a d : List ℕ) (r : ℕ) (b f : List ℕ) : Type 0 where

@@ -9,6 +9,7 @@ use Rattle.codec.specs.Splice.{splice}
 use Rattle.codec.specs.Written.{Written, refused, wrote}
 use Rattle.header.specs.Header.{tableAt, tableOf, parseHeader, wellMadeHeader, writeHeader}
 use Rattle.header.specs.declared.Header.{Header}
+use Rattle.melontime.specs.Numbers.{fieldsLength, malformed, areaLength}
 
 -- ---- writing
 -- 16 bytes of allowances, 64 of limits, n of one byte and t of two
@@ -21,7 +22,7 @@ headerOf n t x = record { n = n; t = t; allowances = numsAt 2 8 x 0 }
 
 -- fields that do not fit are 1; else as the header's writer, with the limits row by row
 unfoldable pub headerWritten : ℕ → ℕ → List ℕ → List ℕ → List ℕ → Written
-headerWritten n t x m d = cond (fieldsFit n t x m) (writeHeader (headerOf n t x) (tableAt 8 m 0) d) (refused 1 d)
+headerWritten n t x m d = cond (fieldsFit n t x m) (writeHeader (headerOf n t x) (tableAt 8 m 0) d) (refused malformed d)
 
 -- ---- reading
 -- the 83 bytes of a header's fields: n, t, the allowances, the limits row by row
@@ -32,5 +33,5 @@ fieldBytes h m = (h .n ∷ []) ++ bytesOf 2 (h .t) ++ numsOf 2 8 (h .allowances)
 unfoldable pub headerFields : List ℕ → List ℕ → Written
 headerFields l d =
     cond (wellMadeHeader l)
-    (cond (ltb (length d) 83) (refused 11 d) (wrote (splice d 0 (fieldBytes (parseHeader l) (tableAt 8 l 32)))))
-    (refused 1 d)
+    (cond (ltb (length d) fieldsLength) (refused areaLength d) (wrote (splice d 0 (fieldBytes (parseHeader l) (tableAt 8 l 32)))))
+    (refused malformed d)

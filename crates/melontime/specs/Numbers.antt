@@ -18,11 +18,43 @@ use Rattle.steps.specs.declared.answer.Answer.{Answer as CodeAnswer}
 use Rattle.steps.specs.declared.answer.Answer.the-variants.{Refused as NotDone, Entered, InMode}
 use mathlib.Core.Bool.{Bool, true, false}
 
+-- ---- the numbers by name
+-- bytes of a record and of a header's fields, and the greatest number that a call can return
+abbrev pub recordLength : ℕ
+recordLength = 32
+
+abbrev pub fieldsLength : ℕ
+fieldsLength = 83
+
+abbrev pub greatest : ℕ
+greatest = 18446744073709551615
+
+-- the refusals of the host's own tests: fields or bytes that make no header; a buffer that is too small or not as long as asked
+abbrev pub malformed : ℕ
+malformed = 1
+
+abbrev pub areaLength : ℕ
+areaLength = 11
+
+-- the answer of an entry, and where answers begin that tell numbers: a mode beside modes × phase, a count beside counts × number
+abbrev pub entryMade : ℕ
+entryMade = 100
+
+abbrev pub tells : ℕ
+tells = 1000
+
+abbrev pub modes : ℕ
+modes = 4
+
+abbrev pub counts : ℕ
+counts = 16
+
+-- ---- of each answer
 -- a step: 100 for an accepted entry, 1,000 + 4 × phase + mode for the mode and phase after; the mode is 0 normal, 1 mute, 2 stand-by
 abbrev pub stepNumber : Answer → ℕ
 stepNumber (refused k) = k
-stepNumber (entry e) = 100
-stepNumber (modeAfter i m p) = 1000 + (4 * p + modeByte m)
+stepNumber (entry e) = entryMade
+stepNumber (modeAfter i m p) = tells + (modes * p + modeByte m)
 
 -- rest: 100 yes, 101 no
 abbrev pub restNumber : RestAnswer → ℕ
@@ -43,23 +75,23 @@ verdictNumber (Refused k) = k
 
 -- an entries block read: 1,000 + 16 × number + count
 abbrev pub blockNumber : EntriesRead → ℕ
-blockNumber (Block n k) = 1000 + (16 * n + k)
+blockNumber (Block n k) = tells + (counts * n + k)
 blockNumber (NoBlock k) = k
 
 -- how many records an archive has, and how many an unordered list: 1,000 + the count
 abbrev pub countedNumber : Counted → ℕ
-countedNumber (Records n) = 1000 + n
+countedNumber (Records n) = tells + n
 countedNumber (NoArchive k) = k
 
 abbrev pub listedNumber : Listed → ℕ
-listedNumber (Count n) = 1000 + n
+listedNumber (Count n) = tells + n
 listedNumber (NoList k) = k
 
 -- the same numbers, by the answer as the code has it
 abbrev pub codeNumber : CodeAnswer → ℕ
 codeNumber (NotDone k) = k
-codeNumber Entered = 100
-codeNumber (InMode m p) = 1000 + (4 * p + modeByte (modeView m))
+codeNumber Entered = entryMade
+codeNumber (InMode m p) = tells + (modes * p + modeByte (modeView m))
 
 abbrev pub isEntry : CodeAnswer → Bool
 isEntry (NotDone k) = false

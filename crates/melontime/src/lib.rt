@@ -10,7 +10,7 @@ ghost use Rattle.verdict.specs.Compare.{verdictOn};
 ghost use Rattle.entries.specs.Entries.{writeEntries, readEntries, readRecord};
 ghost use Rattle.area_calls.specs.Calls.{setupOn, restOn};
 ghost use Rattle.quiescence.specs.View.{restView};
-ghost use Rattle.melontime.specs.Numbers.{blockNumber, restNumber, orderNumber, verdictNumber, countedNumber, listedNumber, codeNumber, isEntry};
+ghost use Rattle.melontime.specs.Numbers.{recordLength, fieldsLength, greatest, blockNumber, restNumber, orderNumber, verdictNumber, countedNumber, listedNumber, codeNumber, isEntry};
 ghost use Rattle.melontime.specs.Calls.{Returns, eventAfter};
 ghost use Rattle.melontime.specs.Headers.{fieldsFit, headerOf, headerWritten, fieldBytes, headerFields};
 ghost use Rattle.melontime.specs.Archives.{recordFound, Listing};
@@ -25,12 +25,46 @@ use steps::answer::Answer;
 use steps::answer::Stepped;
 use verdict::Compared;
 
+// The host's numbers (docs/HOST.md). Lengths of a lent record and of a header's fields in bytes; the refusals of the host's own
+// tests, for fields or bytes that make no header, and for a buffer that is too small or not as long as asked.
+pub const RECORD: usize = 32;
+
+pub const FIELDS: usize = 83;
+
+pub const MALFORMED: u64 = 1;
+
+pub const AREA_LENGTH: u64 = 11;
+
+// Answers that are no refusal: done, of calls that only write; an entry; rest; a verdict; and from TOLD on an answer tells numbers,
+// a mode beside MODES times a phase, or a count beside COUNTS times a block's number.
+pub const DONE: u64 = 0;
+
+pub const ENTRY: u64 = 100;
+
+pub const REST_YES: u64 = 100;
+
+pub const REST_NO: u64 = 101;
+
+pub const VERDICT_BEFORE: u64 = 100;
+
+pub const VERDICT_AFTER: u64 = 101;
+
+pub const VERDICT_SAME: u64 = 102;
+
+pub const VERDICT_UNORDERED: u64 = 103;
+
+pub const TOLD: u64 = 1000;
+
+pub const MODES: u64 = 4;
+
+pub const COUNTS: u64 = 16;
+
 fn in_mode(mode: Mode, phase: u32) -> u64
     ensures { λ r. ⌜ r ≡ codeNumber (Answer.InMode mode phase) ⌝ }
 {
     let wide = phase as u64;
     let number = station::mode_byte(mode) as u64;
-    1000 + (4 * wide + number)
+    TOLD + (MODES * wide + number)
 }
 
 fn number_of(answer: Answer) -> u64
@@ -38,7 +72,7 @@ fn number_of(answer: Answer) -> u64
 {
     match answer {
         Answer::Refused(k) => k as u64,
-        Answer::Entered => 100,
+        Answer::Entered => ENTRY,
         Answer::InMode { mode, phase } => in_mode(mode, phase),
     }
 }
@@ -55,14 +89,14 @@ fn is_entry(answer: Answer) -> bool
 
 // The number of a step's answer; an accepted entry's record is written.
 fn tell(r: Stepped, event: &mut [u8]) -> u64
-    requires { ⌜ length (now event) ≡ 32 ⌝ }
+    requires { ⌜ length (now event) ≡ recordLength ⌝ }
     ensures { λ q. ⌜ (q ≡ codeNumber (r .answer)) × (now (event .exit) ≡ eventAfter (now (event .entry)) r) ⌝ }
 {
     let answer = r.answer;
     let e = r.event;
     if is_entry(answer) {
         record::store(event, e);
-        return 100;
+        return ENTRY;
     }
     number_of(answer)
 }
@@ -83,8 +117,8 @@ pub extern "C" fn melontime_enter(
 ) -> u64
     ensures { λ r. ⌜ Returns (Enter station register) (now (area .entry)) (now (event .entry)) r (now (area .exit)) (now (event .exit)) ⌝ }
 {
-    if event.len() != 32 {
-        return 11;
+    if event.len() != RECORD {
+        return AREA_LENGTH;
     }
     tell(network::enter(area, station, register), event)
 }
@@ -99,8 +133,8 @@ pub extern "C" fn melontime_send(
 ) -> u64
     ensures { λ r. ⌜ Returns (Send station peer register) (now (area .entry)) (now (event .entry)) r (now (area .exit)) (now (event .exit)) ⌝ }
 {
-    if event.len() != 32 {
-        return 11;
+    if event.len() != RECORD {
+        return AREA_LENGTH;
     }
     tell(network::send(area, station, peer, register), event)
 }
@@ -109,8 +143,8 @@ pub extern "C" fn melontime_send(
 pub extern "C" fn melontime_recv(area: &mut [u8], event: &mut [u8], station: u32, peer: u32) -> u64
     ensures { λ r. ⌜ Returns (Recv station peer) (now (area .entry)) (now (event .entry)) r (now (area .exit)) (now (event .exit)) ⌝ }
 {
-    if event.len() != 32 {
-        return 11;
+    if event.len() != RECORD {
+        return AREA_LENGTH;
     }
     tell(network::recv(area, station, peer), event)
 }
@@ -119,8 +153,8 @@ pub extern "C" fn melontime_recv(area: &mut [u8], event: &mut [u8], station: u32
 pub extern "C" fn melontime_start(area: &mut [u8], event: &mut [u8], station: u32) -> u64
     ensures { λ r. ⌜ Returns (Start station) (now (area .entry)) (now (event .entry)) r (now (area .exit)) (now (event .exit)) ⌝ }
 {
-    if event.len() != 32 {
-        return 11;
+    if event.len() != RECORD {
+        return AREA_LENGTH;
     }
     tell(network::start(area, station), event)
 }
@@ -129,8 +163,8 @@ fn rest_number(answer: RestAnswer) -> u64
     ensures { λ r. ⌜ r ≡ restNumber (restView answer) ⌝ }
 {
     match answer {
-        RestAnswer::Yes => 100,
-        RestAnswer::No => 101,
+        RestAnswer::Yes => REST_YES,
+        RestAnswer::No => REST_NO,
         RestAnswer::Refused(k) => k as u64,
     }
 }
@@ -146,10 +180,10 @@ fn order_number(v: Verdict) -> u64
     ensures { λ r. ⌜ r ≡ orderNumber v ⌝ }
 {
     match v {
-        Verdict::Before => 100,
-        Verdict::After => 101,
-        Verdict::Same => 102,
-        Verdict::Unordered => 103,
+        Verdict::Before => VERDICT_BEFORE,
+        Verdict::After => VERDICT_AFTER,
+        Verdict::Same => VERDICT_SAME,
+        Verdict::Unordered => VERDICT_UNORDERED,
     }
 }
 
@@ -181,7 +215,7 @@ fn block_told(number: u32, count: u8) -> u64
 {
     let n = number as u64;
     let k = count as u64;
-    1000 + (16 * n + k)
+    TOLD + (COUNTS * n + k)
 }
 
 fn block_number(answer: EntriesRead) -> u64
@@ -237,7 +271,7 @@ pub extern "C" fn melontime_write_header(
     ensures { λ r. ⌜ (r ≡ headerWritten n t (now (allowances .entry)) (now (limits .entry)) (now (area .entry)) .answer) × (now (area .exit) ≡ headerWritten n t (now (allowances .entry)) (now (limits .entry)) (now (area .entry)) .buffer) ⌝ }
 {
     if !fields_fit(n, t, allowances, limits) {
-        return 1;
+        return MALFORMED;
     }
     let h = header_of(n as u8, t as u16, allowances);
     header::write(h, header::table_at(limits, 0), area) as u64
@@ -245,7 +279,7 @@ pub extern "C" fn melontime_write_header(
 
 // The fields of a header block: its bytes 1 to 3 are n and t, then come the allowances from 16 and the limits from 32.
 fn put_fields(fields: &mut [u8], block: &[u8])
-    requires { ⌜ (length (now block) ≡ 512) × (83 ≤ length (now fields)) ⌝ }
+    requires { ⌜ (length (now block) ≡ 512) × (fieldsLength ≤ length (now fields)) ⌝ }
     ensures { λ _. ⌜ now (fields .exit) ≡ splice (now (fields .entry)) 0 (fieldBytes (parseHeader (now (block .entry))) (tableAt 8 (now (block .entry)) 32)) ⌝ }
 {
     codec::put_bytes(fields, 0, &block[1..4]);
@@ -258,21 +292,21 @@ pub extern "C" fn melontime_read_header(block: &[u8], fields: &mut [u8]) -> u64
     ensures { λ r. ⌜ (r ≡ headerFields (now (block .entry)) (now (fields .entry)) .answer) × (now (fields .exit) ≡ headerFields (now (block .entry)) (now (fields .entry)) .buffer) ⌝ }
 {
     if !header::well_made(block) {
-        return 1;
+        return MALFORMED;
     }
-    if fields.len() < 83 {
-        return 11;
+    if fields.len() < FIELDS {
+        return AREA_LENGTH;
     }
     put_fields(fields, block);
-    0
+    DONE
 }
 
 fn counted_number(answer: Counted) -> u64
-    requires { ⌜ countedNumber answer ≤ 18446744073709551615 ⌝ }
+    requires { ⌜ countedNumber answer ≤ greatest ⌝ }
     ensures { λ r. ⌜ r ≡ countedNumber answer ⌝ }
 {
     match answer {
-        Counted::Records(n) => 1000 + (n as u64),
+        Counted::Records(n) => TOLD + (n as u64),
         Counted::Refused(k) => k as u64,
     }
 }
@@ -293,19 +327,19 @@ pub extern "C" fn melontime_found_record(archive: &[u8], number: u64, area: &mut
     if refusal != 0 {
         return refusal as u64;
     }
-    if area.len() < 32 {
-        return 11;
+    if area.len() < RECORD {
+        return AREA_LENGTH;
     }
     codec::put_bytes(area, 0, archive::record_at(archive, k));
-    0
+    DONE
 }
 
 fn listed_number(answer: Listed) -> u64
-    requires { ⌜ listedNumber answer ≤ 18446744073709551615 ⌝ }
+    requires { ⌜ listedNumber answer ≤ greatest ⌝ }
     ensures { λ r. ⌜ r ≡ listedNumber answer ⌝ }
 {
     match answer {
-        Listed::Count(n) => 1000 + (n as u64),
+        Listed::Count(n) => TOLD + (n as u64),
         Listed::Refused(k) => k as u64,
     }
 }

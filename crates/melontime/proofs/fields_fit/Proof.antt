@@ -3,9 +3,6 @@ use Rattle.melontime.specs.Headers.{fieldsFit}
 use Rattle.melontime.proofs.fields_fit.Statement.{statement}
 use Rattle.melontime.proofs.fields_fit.Tie as tie
 
-returns : tie.Need-returns
-unfolding fieldsFit
-returns c = search needs
-
 pub fields-fit-spec : {M : Type 1} → statement M
-fields-fit-spec = tie.close (tie.spec returns)
+unfolding fieldsFit
+fields-fit-spec = tie.close (tie.spec (λ c. search needs))

@@ -8,12 +8,8 @@ use Rattle.melontime.proofs.Archives.{counted-small}
 use Rattle.melontime.proofs.melontime_archive_records.Statement.{statement}
 use Rattle.melontime.proofs.melontime_archive_records.Tie as tie
 
-counted-number-requires : tie.Need-counted-number-requires
-counted-number-requires c κs = rw (c .count .ensures) (counted-small (now (c .before .before .args .archive)) (omega arith))
-
-returns : tie.Need-returns
-returns c = c .counted-number .ensures ∙ ap (λ (x : Counted). countedNumber x) (c .before .count .ensures)
-
 pub melontime-archive-records-spec : {M : Type 1} → statement M
 melontime-archive-records-spec =
-    tie.close (tie.spec (λ c κs. search needs) counted-number-requires returns)
+    tie.close
+    (tie.spec (λ c κs. search needs) (λ c κs. rw (c .count .ensures) (counted-small (now (c .before .before .args .archive)) (omega arith)))
+    (λ c. c .counted-number .ensures ∙ ap (λ (x : Counted). countedNumber x) (c .before .count .ensures)))

@@ -5,8 +5,6 @@ use Rattle.melontime.specs.Numbers.{blockNumber}
 use Rattle.melontime.proofs.melontime_read_entries.Statement.{statement}
 use Rattle.melontime.proofs.melontime_read_entries.Tie as tie
 
-returns : tie.Need-returns
-returns c = c .block-number .ensures ∙ ap (λ (x : EntriesRead). blockNumber x) (c .before .read .ensures)
-
 pub melontime-read-entries-spec : {M : Type 1} → statement M
-melontime-read-entries-spec = tie.close (tie.spec (λ c κs. search needs) (λ c κs. search needs) returns)
+melontime-read-entries-spec =
+    tie.close (tie.spec (λ c κs. search needs) (λ c κs. search needs) (λ c. c .block-number .ensures ∙ ap (λ (x : EntriesRead). blockNumber x) (c .before .read .ensures)))

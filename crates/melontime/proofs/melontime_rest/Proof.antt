@@ -5,8 +5,6 @@ use Rattle.melontime.specs.Numbers.{restNumber}
 use Rattle.melontime.proofs.melontime_rest.Statement.{statement}
 use Rattle.melontime.proofs.melontime_rest.Tie as tie
 
-returns : tie.Need-returns
-returns c = c .rest-number .ensures ∙ ap (λ (x : RestAnswer). restNumber x) (c .before .rest .ensures)
-
 pub melontime-rest-spec : {M : Type 1} → statement M
-melontime-rest-spec = tie.close (tie.spec (λ c κs. search needs) (λ c κs. search needs) returns)
+melontime-rest-spec =
+    tie.close (tie.spec (λ c κs. search needs) (λ c κs. search needs) (λ c. c .rest-number .ensures ∙ ap (λ (x : RestAnswer). restNumber x) (c .before .rest .ensures)))

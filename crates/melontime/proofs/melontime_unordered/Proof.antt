@@ -11,11 +11,7 @@ listed-number-requires c κs =
     let g = c .before .before .before .before .before .before .args in
     rw (c .before .before .unordered .ensures .answers) (listed-small (now (g .archive)) (g .number) (length (now (g .list))) (omega arith))
 
-returns : tie.Need-returns
-returns c =
-    let g = c .before .before .before .before .before .before .before .args in
-    listing (now (g .archive)) (g .number) (now (g .list)) (c .before .before .before .unordered .last .1 .1 .0) (c .before .before .before .unordered .result) (c .listed-number .result) (c .before .before .before .unordered .ensures) (c .listed-number .ensures)
-
 pub melontime-unordered-spec : {M : Type 1} → statement M
 melontime-unordered-spec =
-    tie.close (tie.spec (λ c κs. search needs) listed-number-requires (λ c. search needs) returns)
+    tie.close
+    (tie.spec (λ c κs. search needs) listed-number-requires (λ c. search needs) (λ c. listing (c .before .before .before .unordered .ensures) (c .listed-number .ensures)))

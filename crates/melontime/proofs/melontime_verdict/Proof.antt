@@ -5,8 +5,6 @@ use Rattle.melontime.specs.Numbers.{verdictNumber}
 use Rattle.melontime.proofs.melontime_verdict.Statement.{statement}
 use Rattle.melontime.proofs.melontime_verdict.Tie as tie
 
-returns : tie.Need-returns
-returns c = c .verdict-number .ensures ∙ ap (λ (x : Compared). verdictNumber x) (c .before .compare .ensures)
-
 pub melontime-verdict-spec : {M : Type 1} → statement M
-melontime-verdict-spec = tie.close (tie.spec (λ c κs. search needs) (λ c κs. search needs) returns)
+melontime-verdict-spec =
+    tie.close (tie.spec (λ c κs. search needs) (λ c κs. search needs) (λ c. c .verdict-number .ensures ∙ ap (λ (x : Compared). verdictNumber x) (c .before .compare .ensures)))

@@ -2,12 +2,6 @@ use borrow.Author.Needs.{needs}
 use Rattle.melontime.proofs.number_of.Statement.{statement}
 use Rattle.melontime.proofs.number_of.Tie as tie
 
-returns-3 : tie.Need-returns-3
-returns-3 c = cc
-
 pub number-of-spec : {M : Type 1} → statement M
 number-of-spec =
-    tie.close
-    (tie.spec
-    (λ c. search needs) (λ c. search needs) (λ c. search needs) (λ c. search needs)
-    (λ c κs. search needs) (λ c. search needs) (λ c. search needs) returns-3)
+    tie.close (tie.spec (λ c. search needs) (λ c. search needs) (λ c. search needs) (λ c. search needs) (λ c κs. search needs) (λ c. search needs) (λ c. search needs) (λ c. cc))

@@ -11,6 +11,4 @@ returns c =
     entered-told (g .r) (now (g .event)) (c .before .before .store .last .0) (c .before .before .before .before .before .before .before .before .pre) (sym (c .before .before .before .before .before .is-entry .ensures) ∙ c .before .before .before .before .if1 .taken) (c .before .before .store .ensures)
 
 pub tell-spec : {M : Type 1} → statement M
-tell-spec =
-    tie.close
-    (tie.spec (λ c κs. search needs) (λ c κs. search needs) (λ c. search needs) returns (λ c κs. search needs) (λ c. search needs))
+tell-spec = tie.close (tie.spec (λ c κs. search needs) (λ c κs. search needs) (λ c. search needs) returns (λ c κs. search needs) (λ c. search needs))
