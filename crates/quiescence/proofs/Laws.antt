@@ -1,12 +1,13 @@
 -- Quiescence, station by station. Assumes nothing.
-use Prim.Native.Nat.{ℕ, zero, suc, _≤_, _<_}
+use Prim.Native.Nat.{ℕ, _≤_, _<_}
 use mathlib.Core.Path.{_≡_, refl, _∙_, sym, ap, ap₂}
 use mathlib.Core.List.{List}
-use mathlib.Core.Bool.{Bool, true, false, _&&_}
+use mathlib.Core.Bool.{Bool, true, _&&_}
 use native.Mathlib.Omega.{arith}
 use lib.Dec.{eqb}
 use lib.ListN.{take}
 use Rattle.codec.specs.Every.{every}
+use Rattle.codec.proofs.FlagLaws.{every-both}
 use Rattle.header.specs.Header.{parseHeader}
 use Rattle.header.specs.declared.Header.{Header}
 use Rattle.header.proofs.Laws.{header-small}
@@ -25,21 +26,9 @@ use Rattle.area.proofs.Formed.{tested, station-read}
 abbrev pub settled : State vector → ℕ → Bool
 settled s i = isNormal (stationAt s i .mode) && eqb (stationAt s i .phase) (stationAt s 0 .phase)
 
-crossed : (a b c d : Bool) → ((a && b) && (c && d)) ≡ ((a && c) && (b && d))
-crossed false b c d = refl
-crossed true true c d = refl
-crossed true false true d = refl
-crossed true false false d = refl
-
--- two tests of every index in one
-every-both : (n : ℕ) (p q : ℕ → Bool) → (every n p && every n q) ≡ every n (λ (i : ℕ). p i && q i)
-unfolding every
-every-both zero p q = refl
-every-both (suc n) p q = crossed (every n p) (p n) (every n q) (q n) ∙ ap (λ (x : Bool). x && (p n && q n)) (every-both n p q)
-
 pub settles : (n : ℕ) (s : State vector) → quiescent (sized n 0) s ≡ every n (settled s)
 unfolding quiescent
-settles n s = every-both n (λ (i : ℕ). isNormal (stationAt s i .mode)) (λ (i : ℕ). eqb (stationAt s i .phase) (stationAt s 0 .phase))
+settles n s = sym (every-both (settled s) (λ (i : ℕ). isNormal (stationAt s i .mode)) (λ (i : ℕ). eqb (stationAt s i .phase) (stationAt s 0 .phase)) (λ (i : ℕ). refl) n)
 
 -- what is read of two stations
 pub settled-is : (a : List ℕ) (i : ℕ) (x y : CodeStation) (b : Bool) → i < 8 → stationView x ≡ parseStation (stationBytes a i) → stationView y ≡ parseStation (stationBytes a 0)

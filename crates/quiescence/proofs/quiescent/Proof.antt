@@ -17,18 +17,6 @@ Inv-loop area n top start i₀ i = (i ≤ n) × (every i (settled (stateAt area)
 abbrev μ-loop : tie.MeasureT-loop
 μ-loop area n top start i₀ i = n - i
 
-load-station-requires : tie.Need-load-station-requires Inv-loop μ-loop
-load-station-requires c κs = (omega arith, omega arith)
-
-loop-holds : tie.Need-loop-holds Inv-loop μ-loop
-loop-holds c = (omega arith, every-none _)
-
-load-station-requires-2 : tie.Need-load-station-requires-2 Inv-loop μ-loop
-load-station-requires-2 c κs = (omega arith, omega arith)
-
-is-normal-requires : tie.Need-is-normal-requires Inv-loop μ-loop
-is-normal-requires c κs = tt
-
 returns : tie.Need-returns Inv-loop μ-loop
 returns c =
     let g = c .before .before .before .before .before .before .before .before .before .args in
@@ -54,8 +42,5 @@ returns-2 c =
 pub quiescent-spec : {M : Type 1} → statement M
 quiescent-spec =
     tie.close
-    (tie.spec
-    Inv-loop
-    μ-loop
-    load-station-requires loop-holds load-station-requires-2 is-normal-requires returns
-    (λ c. omega arith) (λ c. omega arith) loop-again returns-2)
+    (tie.spec Inv-loop μ-loop (λ c κs. (omega arith, omega arith)) (λ c. (omega arith, every-none _)) (λ c κs. (omega arith, omega arith)) (λ c κs. tt) returns (λ c. omega arith)
+    (λ c. omega arith) loop-again returns-2)

@@ -15,9 +15,6 @@ returns : tie.Need-returns
 unfolding restOn
 returns c = rw (sym (c .before .well-formed .ensures) ∙ not-true _ (c .if1 .taken))
 
-part-load-end : tie.Need-part-load-end
-part-load-end c = omega (arith, tested _ (sym (c .before .well-formed .ensures) ∙ not-false _ (c .if1 .left)) .long)
-
 quiescent-requires : tie.Need-quiescent-requires
 quiescent-requires c κs =
     let a = now (c .before .before .before .before .before .args .area) in
@@ -41,6 +38,5 @@ returns-3 c =
 pub rest-spec : {M : Type 1} → statement M
 rest-spec =
     tie.close
-    (tie.spec
-    (λ c κs. search needs) returns (λ c. search needs) (λ c. search needs) part-load-end
-    (λ c κs. search needs) quiescent-requires returns-2 returns-3)
+    (tie.spec (λ c κs. search needs) returns (λ c. search needs) (λ c. search needs)
+    (λ c. omega (arith, tested _ (sym (c .before .well-formed .ensures) ∙ not-false _ (c .if1 .left)) .long)) (λ c κs. search needs) quiescent-requires returns-2 returns-3)

@@ -22,9 +22,6 @@ loop-holds c =
     let a = c .before .args in
     (omega arith, refl, sym (ap (splice (now (a .area)) 512) (fresh-none (a .limits)) ∙ splice-none (now (a .area)) 512))
 
-store-requires : tie.Need-store-requires Inv-loop μ-loop
-store-requires c κs = simp (length-take, length-drop) (omega arith)
-
 loop-again : tie.Need-loop-again Inv-loop μ-loop
 loop-again c =
     let l = c .before .before .before .before .before .before .loop in
@@ -41,9 +38,5 @@ returns c = let e : c .before .loop .i ≡ 8 = omega arith in rw e at (c .before
 pub put-stations-spec : {M : Type 1} → statement M
 put-stations-spec =
     tie.close
-    (tie.spec
-    Inv-loop
-    μ-loop
-    loop-holds (λ c. omega arith) (λ c. omega arith) (λ c. omega arith) (λ c κs. omega arith)
-    (λ c. omega arith) (λ c. omega arith) (λ c. omega arith) store-requires (λ c. omega arith)
-    (λ c. omega arith) loop-again (λ c. omega arith) returns)
+    (tie.spec Inv-loop μ-loop loop-holds (λ c. omega arith) (λ c. omega arith) (λ c. omega arith) (λ c κs. omega arith) (λ c. omega arith) (λ c. omega arith) (λ c. omega arith)
+    (λ c κs. simp (length-take, length-drop) (omega arith)) (λ c. omega arith) (λ c. omega arith) loop-again (λ c. omega arith) returns)

@@ -26,12 +26,6 @@ returns-2 : tie.Need-returns-2
 unfolding setupOn
 returns-2 c = rw (eq-eqb _ 65536 (c .before .before .if1 .left), sym (c .before .well-made .ensures) ∙ not-true _ (c .if2 .taken)) (refl, refl)
 
-load-limits-requires : tie.Need-load-limits-requires
-load-limits-requires c κs = well-made-length _ (sym (c .before .well-made .ensures) ∙ not-false _ (c .if2 .left))
-
-load-requires : tie.Need-load-requires
-load-requires c κs = well-made-length _ (sym (c .before .before .well-made .ensures) ∙ not-false _ (c .before .if2 .left))
-
 returns-3 : tie.Need-returns-3
 unfolding setupOn
 returns-3 c =
@@ -65,7 +59,6 @@ returns-4 c =
 pub setup-spec : {M : Type 1} → statement M
 setup-spec =
     tie.close
-    (tie.spec
-    returns (λ c κs. search needs) returns-2 load-limits-requires load-requires
-    (λ c κs. search needs) returns-3 put-bytes-requires (λ c κs. search needs)
-    (λ c κs. search needs) (λ c. search needs) returns-4)
+    (tie.spec returns (λ c κs. search needs) returns-2 (λ c κs. well-made-length _ (sym (c .before .well-made .ensures) ∙ not-false _ (c .if2 .left)))
+    (λ c κs. well-made-length _ (sym (c .before .before .well-made .ensures) ∙ not-false _ (c .before .if2 .left))) (λ c κs. search needs) returns-3 put-bytes-requires
+    (λ c κs. search needs) (λ c κs. search needs) (λ c. search needs) returns-4)
