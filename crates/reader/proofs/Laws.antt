@@ -8,7 +8,7 @@ use lib.ListN.{length, getD}
 use lib.Seq.{getD-take, getD-drop}
 use borrow.Author.Tests.{lt-ltb, le-ltb, eq-eqb, ne-eqb}
 use Rattle.archive.specs.Archive.{blockOf, blocks, records}
-use Rattle.reader.specs.Reading.{goes, stays, openAt}
+use Rattle.reader.specs.Reading.{noArchive, noSuchRecord, goes, stays, openAt}
 
 pub records-none : (a : List ℕ) → length a / 512 < 2 → records a ≡ 0
 unfolding records blocks
@@ -29,7 +29,7 @@ pub some-bytes : (a : List ℕ) (k : ℕ) → k < records a → length a ≢ 0
 some-bytes a k h e = omega (arith, records-none a (omega arith))
 
 -- ---- opening, in its three cases
-pub open-nothing : (a : List ℕ) (k at : ℕ) → length a ≡ 0 → openAt a k at ≡ stays at 1
+pub open-nothing : (a : List ℕ) (k at : ℕ) → length a ≡ 0 → openAt a k at ≡ stays at noArchive
 unfolding openAt
 open-nothing a k at e = rw (eq-eqb _ 0 e)
 
@@ -37,6 +37,6 @@ pub open-goes : (a : List ℕ) (k at : ℕ) → k < records a → openAt a k at 
 unfolding openAt
 open-goes a k at h = rw (ne-eqb _ 0 (some-bytes a k h), lt-ltb _ _ h)
 
-pub open-stays : (a : List ℕ) (k at : ℕ) → length a ≢ 0 → records a ≤ k → openAt a k at ≡ stays at 12
+pub open-stays : (a : List ℕ) (k at : ℕ) → length a ≢ 0 → records a ≤ k → openAt a k at ≡ stays at noSuchRecord
 unfolding openAt
 open-stays a k at d h = rw (ne-eqb _ 0 d, le-ltb _ _ h)

@@ -14,25 +14,25 @@ use Rattle.entries.proofs.Laws.{well-made-count}
 use Rattle.archive.specs.Archive.{blockOf, blocks, records, recordAt, findRecord, foundRecord, archiveTest}
 use Rattle.archive.proofs.Laws.{test-long, test-blocks, block-parts}
 use Rattle.archive.proofs.Tested.{record-well-made, record-length}
-use Rattle.reader.specs.Reading.{testedPart, stays, goes, openAt, standing, opened}
+use Rattle.reader.specs.Reading.{testedPart, noArchive, noSuchRecord, stays, goes, openAt, standing, opened}
 use Rattle.reader.specs.Made.{MadeOf, Call, opens, moves, answerTo, afterCalls, asFound, Answers, OnNothing, OnRecord, OnHeader}
 use Rattle.reader.specs.declared.Reader.{Reader}
 use Rattle.reader.proofs.Laws.{open-nothing}
 
 -- ---- opening
-found-none : (b : List ℕ) (k at : ℕ) → archiveTest b ≡ false → asFound b k at ≡ stays at 1
+found-none : (b : List ℕ) (k at : ℕ) → archiveTest b ≡ false → asFound b k at ≡ stays at noArchive
 unfolding asFound findRecord
 found-none b k at e = rw e
 
-found-some : (b : List ℕ) (k at : ℕ) → archiveTest b ≡ true → asFound b k at ≡ cond (ltb k (records b)) (goes k) (stays at 12)
+found-some : (b : List ℕ) (k at : ℕ) → archiveTest b ≡ true → asFound b k at ≡ cond (ltb k (records b)) (goes k) (stays at noSuchRecord)
 unfolding asFound findRecord
 found-some b k at e = rw e (go (ltb k (records b)))
   where
-    go : (t : Bool) → cond (eqb (cond t 0 12) 0) (goes k) (stays at (cond t 0 12)) ≡ cond t (goes k) (stays at 12)
+    go : (t : Bool) → cond (eqb (cond t 0 12) 0) (goes k) (stays at (cond t 0 12)) ≡ cond t (goes k) (stays at noSuchRecord)
     go true = refl
     go false = refl
 
-open-some : (b : List ℕ) (k at : ℕ) → archiveTest b ≡ true → openAt b k at ≡ cond (ltb k (records b)) (goes k) (stays at 12)
+open-some : (b : List ℕ) (k at : ℕ) → archiveTest b ≡ true → openAt b k at ≡ cond (ltb k (records b)) (goes k) (stays at noSuchRecord)
 unfolding openAt
 open-some b k at e = let d : length b ≢ 0 = λ (z : length b ≡ 0). omega (arith, test-long b e) in rw (ne-eqb _ 0 d)
 
@@ -138,13 +138,13 @@ unfolding testedPart foundRecord findRecord
 made-of-no-archive b r e m cs =
     let x = afterCalls r cs in
     let a = made-answers b r m cs in
-    let o : (k : ℕ) → opened x k ≡ stays (x .at) 1 = λ (k : ℕ). a .opening k ∙ found-none b k (x .at) e in
+    let o : (k : ℕ) → opened x k ≡ stays (x .at) noArchive = λ (k : ℕ). a .opening k ∙ found-none b k (x .at) e in
     record {
       holds = rw e at (a .holds);
       opening = o;
       moving = o (x .at + 1);
       handing = rw e at (a .handing);
-      leaving = all-refused x 1 o;
+      leaving = all-refused x noArchive o;
     }
 
 -- a header alone
@@ -154,13 +154,13 @@ made-of-header b r e n m cs =
     let x = afterCalls r cs in
     let a = made-answers b r m cs in
     let w : now (x .archive) ≡ b = rw e at (a .holds) in
-    let o : (k : ℕ) → opened x k ≡ stays (x .at) 12 = λ (k : ℕ). let l : records b ≤ k = omega arith in a .opening k ∙ found-some b k (x .at) e ∙ rw (le-ltb _ _ l) refl in
+    let o : (k : ℕ) → opened x k ≡ stays (x .at) noSuchRecord = λ (k : ℕ). let l : records b ≤ k = omega arith in a .opening k ∙ found-some b k (x .at) e ∙ rw (le-ltb _ _ l) refl in
     record {
       holds = w;
       opening = o;
       moving = o (x .at + 1);
       handing = rw w (record-header b (x .at) e n);
-      leaving = all-refused x 12 o;
+      leaving = all-refused x noSuchRecord o;
     }
 
 -- an archive with a record
@@ -171,7 +171,7 @@ made-of-archive b r e n m cs =
     let a = made-answers b r m cs in
     let w : now (x .archive) ≡ b = rw e at (a .holds) in
     let l : x .at < records b = go x (stands b r m cs .place) (decLt (x .at) (records b)) in
-    let o : (k : ℕ) → opened x k ≡ cond (ltb k (records b)) (goes k) (stays (x .at) 12) = λ (k : ℕ). a .opening k ∙ found-some b k (x .at) e in
+    let o : (k : ℕ) → opened x k ≡ cond (ltb k (records b)) (goes k) (stays (x .at) noSuchRecord) = λ (k : ℕ). a .opening k ∙ found-some b k (x .at) e in
     record {
       holds = w;
       there = l;

@@ -8,7 +8,7 @@ use lib.ListN.{length}
 use denote.Ref.{now}
 use Rattle.record.specs.Record.{wellMadeRecord}
 use Rattle.archive.specs.Archive.{records, recordAt, findRecord, foundRecord}
-use Rattle.reader.specs.Reading.{testedPart, stays, goes, standing, opened, advanced}
+use Rattle.reader.specs.Reading.{testedPart, noArchive, noSuchRecord, stays, goes, standing, opened, advanced}
 use Rattle.reader.specs.declared.Place.{Place}
 use Rattle.reader.specs.declared.Reader.{Reader}
 
@@ -50,8 +50,8 @@ pub record Answers (b : List ℕ) (r : Reader) : Type 0 where
 -- on bytes that are no archive: the reader stands on nothing, and every call is refused by 1
 pub record OnNothing (r : Reader) : Type 0 where
   pub holds : now (r .archive) ≡ []
-  pub opening : (number : ℕ) → opened r number ≡ stays (r .at) 1
-  pub moving : advanced r ≡ stays (r .at) 1
+  pub opening : (number : ℕ) → opened r number ≡ stays (r .at) noArchive
+  pub moving : advanced r ≡ stays (r .at) noArchive
   pub handing : handed r ≡ []
   pub leaving : (cs : List Call) → afterCalls r cs ≡ r
 
@@ -59,8 +59,8 @@ pub record OnNothing (r : Reader) : Type 0 where
 pub record OnRecord (b : List ℕ) (r : Reader) : Type 0 where
   pub holds : now (r .archive) ≡ b
   pub there : r .at < records b
-  pub opening : (number : ℕ) → opened r number ≡ cond (ltb number (records b)) (goes number) (stays (r .at) 12)
-  pub moving : advanced r ≡ cond (ltb (r .at + 1) (records b)) (goes (r .at + 1)) (stays (r .at) 12)
+  pub opening : (number : ℕ) → opened r number ≡ cond (ltb number (records b)) (goes number) (stays (r .at) noSuchRecord)
+  pub moving : advanced r ≡ cond (ltb (r .at + 1) (records b)) (goes (r .at + 1)) (stays (r .at) noSuchRecord)
   pub handing : handed r ≡ foundRecord b (r .at)
   pub whole : length (handed r) ≡ 32
   pub well-made : wellMadeRecord (handed r) ≡ true
@@ -68,7 +68,7 @@ pub record OnRecord (b : List ℕ) (r : Reader) : Type 0 where
 -- on a header alone: there is no record to stand on, and every call is refused by 12
 pub record OnHeader (b : List ℕ) (r : Reader) : Type 0 where
   pub holds : now (r .archive) ≡ b
-  pub opening : (number : ℕ) → opened r number ≡ stays (r .at) 12
-  pub moving : advanced r ≡ stays (r .at) 12
+  pub opening : (number : ℕ) → opened r number ≡ stays (r .at) noSuchRecord
+  pub moving : advanced r ≡ stays (r .at) noSuchRecord
   pub handing : handed r ≡ []
   pub leaving : (cs : List Call) → afterCalls r cs ≡ r

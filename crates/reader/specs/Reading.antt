@@ -14,6 +14,13 @@ use Rattle.reader.specs.declared.Reader.{Reader}
 unfoldable pub testedPart : List ℕ → List ℕ
 testedPart b = cond (archiveTest b) b []
 
+-- refusals: what the reader was made of is no archive; there is no record of that number
+abbrev pub noArchive : ℕ
+noArchive = 1
+
+abbrev pub noSuchRecord : ℕ
+noSuchRecord = 12
+
 -- refused, and at the same place
 abbrev pub stays : ℕ → ℕ → Place
 stays at refusal = record { at = at; refusal = refusal }
@@ -25,7 +32,7 @@ goes at = record { at = at; refusal = 0 }
 -- opening at a number, from place `at`: on nothing refused by 1; where there is no such record by 12. Any bytes have an answer. The
 -- length and the last block's count say how many records there are, and on an archive that is right
 unfoldable pub openAt : List ℕ → ℕ → ℕ → Place
-openAt a number at = cond (eqb (length a) 0) (stays at 1) (cond (ltb number (records a)) (goes number) (stays at 12))
+openAt a number at = cond (eqb (length a) 0) (stays at noArchive) (cond (ltb number (records a)) (goes number) (stays at noSuchRecord))
 
 -- moving on by one: opening at the next number
 abbrev pub nextAt : List ℕ → ℕ → Place

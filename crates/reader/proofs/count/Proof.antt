@@ -8,9 +8,6 @@ use borrow.Author.Needs.{needs}
 use Rattle.reader.proofs.count.Statement.{statement}
 use Rattle.reader.proofs.count.Tie as tie
 
-returns : tie.Need-returns
-returns c = sym (records-none (now (c .before .before .args .archive)) (omega arith))
-
 add-result : tie.Need-add-result
 add-result c =
     let l = now (c .before .before .before .before .args .archive) in
@@ -23,4 +20,6 @@ returns-2 c =
 
 pub count-spec : {M : Type 1} → statement M
 count-spec =
-    tie.close (tie.spec returns (λ c. search needs) (λ c. search needs) (λ c. search needs) (λ c. search needs) (λ c. search needs) (λ c κs. search needs) add-result returns-2)
+    tie.close
+    (tie.spec (λ c. sym (records-none (now (c .before .before .args .archive)) (omega arith))) (λ c. search needs) (λ c. search needs) (λ c. search needs) (λ c. search needs)
+    (λ c. search needs) (λ c κs. search needs) add-result returns-2)
