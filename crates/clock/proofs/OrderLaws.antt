@@ -23,9 +23,6 @@ equal-counts v w e h g = ext-getD 0 v w e (λ (k : ℕ) (l : k < length v). omeg
 pub less-irreflexive : (v : List ℕ) → Less v v → ⊥
 less-irreflexive v h = h .0 refl
 
-pub less-asymmetric : (v w : List ℕ) → length v ≡ length w → Less v w → Less w v → ⊥
-less-asymmetric v w e h g = h .0 (equal-counts v w e (h .1) (g .1))
-
 -- the lengths matter: 1 is less than 1 0, and that less than 1
 pub less-transitive : (u v w : List ℕ) → length u ≡ length v → Less u v → Less v w → Less u w
 less-transitive u v w e h g = (
@@ -86,15 +83,6 @@ module _ (v w : List ℕ) (even : length v ≡ length w) (short : length w ≤ 8
   -- a verdict is given exactly where what it says holds
   pub verdict-exact : (x : Verdict) → (verdictOf v w ≡ x) ↔ Says x v w
   verdict-exact x = (λ (e : verdictOf v w ≡ x). rw e at verdict-holds, verdict-is x)
-
-  pub verdict-before : (verdictOf v w ≡ Before) ↔ Less v w
-  verdict-before = verdict-exact Before
-
-  pub verdict-after : (verdictOf v w ≡ After) ↔ Less w v
-  verdict-after = verdict-exact After
-
-  pub verdict-same : (verdictOf v w ≡ Same) ↔ (v ≡ w)
-  verdict-same = verdict-exact Same
 
   pub verdict-unordered : (verdictOf v w ≡ Unordered) ↔ ((Less v w → ⊥) × (Less w v → ⊥) × (v ≡ w → ⊥))
   verdict-unordered = verdict-exact Unordered

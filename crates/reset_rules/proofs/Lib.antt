@@ -1,3 +1,4 @@
+pub mod Walk
 pub mod SeenLaws
 pub mod SlotLaws
 pub mod TurnLaws

@@ -1,7 +1,9 @@
 -- The rules on a record and two slots. Assumes nothing.
 use Prim.Native.Nat.{ℕ}
 use mathlib.Core.Path.{_≡_, refl, ap, _∙_}
+use mathlib.Core.List.{List, []}
 use mathlib.Core.Bool.{Bool, true, false, cond}
+use lib.ListN.{getD}
 use Rattle.reset.specs.Config.{Config, neighbours}
 use Rattle.reset.specs.Clock.{vector}
 use Rattle.reset.specs.State.{Mode, normal, mute, standBy, Station, reqSeen, doneSeen}
@@ -9,21 +11,23 @@ use Rattle.reset.specs.Steps.{everyNeighbour, someNeighbour, Rule, ruleA, ruleB
 use Rattle.reset.proofs.Views.{none-at}
 use Rattle.reset.proofs.TurnLaws.{some-none, applied}
 use Rattle.reset_rules.specs.Turn.{Turning, turnedBy, turnedOnce, turnedAll, turned, started}
-use Rattle.reset_rules.specs.Slots.{controlFits, Slots, slotItems, fresh, asked, slotBy, slotOnce, slotAll}
+use Rattle.reset_rules.specs.Slots.{everySeen, someSeen, controlFits, Slots, slotItems, slotsView, turnedView, fresh, asked, slotBy, slotOnce, slotAll}
+use Rattle.reset_rules.specs.declared.Turned.{Turned}
+use Rattle.reset_rules.proofs.SeenLaws.{every-seen, some-seen}
 
--- ---- one rule, by the mode and the marks seen
-module _ (c : Config) (i : ℕ) (t : Slots) (b : Bool) where
-  pub once-mute : t .station .mode ≡ mute → everyNeighbour c i (reqSeen (t .station)) ≡ b → slotOnce c i t ≡ slotBy t (cond b ruleA noRule)
+-- ---- one rule, by the mode and a flag: whether the marks are seen, in the row of limits
+module _ (c : Config) (i : ℕ) (t : Slots) (b : Bool) {row : List ℕ} (r : getD (c .limits) i [] ≡ row) {f : Bool} where
+  pub once-mute : t .station .mode ≡ mute → f ≡ everySeen row (t .station .reqs) → f ≡ b → slotBy t (cond b ruleA noRule) ≡ slotOnce c i t
   unfolding slotOnce
-  once-mute e h = rw (e, h)
+  once-mute e h g = rw (e, every-seen c i row r (t .station .reqs), ← h, g)
 
-  pub once-stand-by : t .station .mode ≡ standBy → everyNeighbour c i (doneSeen (t .station)) ≡ b → slotOnce c i t ≡ slotBy t (cond b ruleB noRule)
+  pub once-stand-by : t .station .mode ≡ standBy → f ≡ everySeen row (t .station .dones) → f ≡ b → slotBy t (cond b ruleB noRule) ≡ slotOnce c i t
   unfolding slotOnce
-  once-stand-by e h = rw (e, h)
+  once-stand-by e h g = rw (e, every-seen c i row r (t .station .dones), ← h, g)
 
-  pub once-normal : t .station .mode ≡ normal → someNeighbour c i (reqSeen (t .station)) ≡ b → slotOnce c i t ≡ slotBy t (cond b ruleC noRule)
+  pub once-normal : t .station .mode ≡ normal → f ≡ someSeen row (t .station .reqs) → f ≡ b → slotBy t (cond b ruleC noRule) ≡ slotOnce c i t
   unfolding slotOnce
-  once-normal e h = rw (e, h)
+  once-normal e h g = rw (e, some-seen c i row r (t .station .reqs), ← h, g)
 
 -- ---- three rules in a row
 -- a rule does the same to the record, whatever was sent
@@ -119,7 +123,7 @@ module _ (c : Config) (i : ℕ) where
     slots-started = from-begin _ _ refl refl
 
 -- ---- the slots hold numbers of control items, or 0
-abbrev pub SlotsFit : Slots → Type 0
+abbrev SlotsFit : Slots → Type 0
 SlotsFit t = (controlFits (t .first) ≡ true) × (controlFits (t .second) ≡ true)
 
 by-fits : (t : Slots) (r : Rule) → SlotsFit t → SlotsFit (slotBy t r)
@@ -133,5 +137,14 @@ module _ (c : Config) (i : ℕ) where
   unfolding slotOnce
   once-fits t h = by-fits t (ruleOf c i (t .station)) h
 
-  pub all-fits : (t : Slots) → SlotsFit t → SlotsFit (slotAll c i t)
+  all-fits : (t : Slots) → SlotsFit t → SlotsFit (slotAll c i t)
   all-fits t h = once-fits _ (once-fits _ (once-fits t h))
+
+-- ---- what the rules promise of a station in a table of limits, by what they do for its row
+pub promised : (r : Turned) (m : List (List ℕ)) (i : ℕ) (t : Slots) (g : Config → Turning vector) → SlotsFit t → ((c : Config) → slotItems (slotAll c i t) ≡ g c)
+    → ((c : Config) (k : ℕ) → getD (c .limits) k [] ≡ getD m i [] → slotsView r ≡ slotAll c k t)
+    → ((c : Config) → c .limits ≡ m → turnedView r ≡ g c) × (controlFits (r .first) ≡ true) × (controlFits (r .second) ≡ true)
+promised r m i t g h is all =
+    let w : Config = record { n = 0; t = 0; allowances = []; limits = m } in
+    let f : SlotsFit (slotsView r) = rw (all w i refl) (all-fits w i t h) in
+    (λ (c : Config) (e : c .limits ≡ m). ap slotItems (all c i (ap (λ (l : List (List ℕ)). getD l i []) e)) ∙ is c, f .0, f .1)

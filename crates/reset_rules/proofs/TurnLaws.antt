@@ -1,10 +1,8 @@
 -- The reset rules on one record are what the network does: a new record for station i, and the items sent, in order, on every link out of it. Assumes nothing.
-use Prim.Native.Nat.{ℕ, zero, suc, _<_}
-use mathlib.Core.Path.{_≡_, refl, sym, ap, _∙_}
+use Prim.Native.Nat.{ℕ, zero, suc}
+use mathlib.Core.Path.{_≡_, refl, ap, _∙_}
 use mathlib.Core.List.{List, [], _∷_, _++_, append-nil}
 use mathlib.Core.Bool.{Bool, true, false, cond}
-use native.Mathlib.Omega.{arith}
-use lib.ListN.{getD, length}
 use Rattle.codec.specs.Put.{put}
 use Rattle.reset.specs.Config.{Config, neighbours}
 use Rattle.reset.specs.Clock.{Clock}
@@ -20,11 +18,6 @@ put-again d [] (suc i) a b = ap (_∷_ d) (put-again d [] i a b)
 put-again d (x ∷ l) zero a b = refl
 put-again d (x ∷ l) (suc i) a b = ap (_∷_ x) (put-again d l i a b)
 
-put-own : {A : Type 0} (d : A) (l : List A) (i : ℕ) → i < length l → put d l i (getD l i d) ≡ l
-put-own d [] i h = absurd (omega arith)
-put-own d (x ∷ l) zero h = refl
-put-own d (x ∷ l) (suc i) h = ap (_∷_ x) (put-own d l i (omega arith))
-
 module _ {K : Clock} where
   abbrev withStations : State K → List (Station K) → State K
   withStations s l = record { stations = l; links = s .links }
@@ -32,11 +25,6 @@ module _ {K : Clock} where
   set-again : (s : State K) (i : ℕ) (x y : Station K) → setStation (setStation s i x) i y ≡ setStation s i y
   unfolding setStation
   set-again s i x y = ap (withStations s) (put-again blankStation (s .stations) i x y)
-
-  -- a record replaced by itself
-  pub set-own : (s : State K) (i : ℕ) → i < length (s .stations) → setStation s i (stationAt s i) ≡ s
-  unfolding setStation stationAt
-  set-own s i h = ap (withStations s) (put-own blankStation (s .stations) i h)
 
   -- a link and a record, in either order
   pub set-link-set : (s : State K) (a b i : ℕ) (q : List (Item K)) (x : Station K) → setLink (setStation s i x) a b q ≡ setStation (setLink s a b q) i x
@@ -109,11 +97,6 @@ module _ {K : Clock} where
     -- with station i's record x
     pub turn-set : (s : State K) (x : Station K) → turn c i (setStation s i x) ≡ putItems c (setStation s i (turned c i x .station)) i (turned c i x .items)
     turn-set s x = turn-with s (record { station = x; items = [] })
-
-    -- with the record that is there
-    pub turn-at : (s : State K) → i < length (s .stations)
-        → turn c i s ≡ putItems c (setStation s i (turned c i (stationAt s i) .station)) i (turned c i (stationAt s i) .items)
-    turn-at s h = ap (turn c i) (sym (set-own s i h)) ∙ turn-set s (stationAt s i)
 
     -- begin, and then the rules
     pub start-set : (s : State K)

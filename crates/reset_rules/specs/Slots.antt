@@ -21,13 +21,22 @@ everySeen row marks = every 8 (λ (j : ℕ). eqb (getD row j 0) 0 || getD marks 
 unfoldable pub someSeen : List ℕ → List Bool → Bool
 someSeen row marks = some 8 (λ (j : ℕ). not (eqb (getD row j 0) 0) && getD marks j false)
 
--- ---- control items by number: 2 reset_req, 3 reset_done
+-- ---- control items by number
+abbrev pub noItem : ℕ
+noItem = 0
+
+abbrev pub reqNumber : ℕ
+reqNumber = 2
+
+abbrev pub doneNumber : ℕ
+doneNumber = 3
+
 abbrev pub itemOf : ℕ → List (Item vector)
-itemOf k = cond (eqb k 2) (resetReq ∷ []) (cond (eqb k 3) (resetDone ∷ []) [])
+itemOf k = cond (eqb k reqNumber) (resetReq ∷ []) (cond (eqb k doneNumber) (resetDone ∷ []) [])
 
 -- the number of a control item, or 0 for none
 abbrev pub controlFits : ℕ → Bool
-controlFits k = eqb k 0 || (eqb k 2 || eqb k 3)
+controlFits k = eqb k noItem || (eqb k reqNumber || eqb k doneNumber)
 
 -- A record and the two slots.
 pub record Slots : Type 0 where
@@ -48,16 +57,16 @@ turnedView t = slotItems (slotsView t)
 
 -- nothing is sent yet; a begin has sent reset_req
 abbrev pub fresh : Station vector → Slots
-fresh x = record { station = x; first = 0; second = 0 }
+fresh x = record { station = x; first = noItem; second = noItem }
 
 abbrev pub asked : Station vector → Slots
-asked x = record { station = begun x; first = 2; second = 0 }
+asked x = record { station = begun x; first = reqNumber; second = noItem }
 
 -- a rule applied: reset_req goes into the first slot, reset_done into the second
 abbrev pub slotBy : Slots → Rule → Slots
-slotBy t ruleA = record { station = renewed (t .station); first = t .first; second = 3 }
+slotBy t ruleA = record { station = renewed (t .station); first = t .first; second = doneNumber }
 slotBy t ruleB = record { station = woken (t .station); first = t .first; second = t .second }
-slotBy t ruleC = record { station = begun (t .station); first = 2; second = t .second }
+slotBy t ruleC = record { station = begun (t .station); first = reqNumber; second = t .second }
 slotBy t noRule = t
 
 -- the first rule that applies to station i, once; three times

@@ -15,7 +15,14 @@ ghost use Rattle.reset_rules.specs.Slots.{controlFits, everySeen, someSe
 use station::Mode;
 use station::Station;
 
-// A station after the reset rules, with the control items that go on every link out, in order: 0 none, 2 reset_req, 3 reset_done.
+// Control items by number.
+pub const NO_ITEM: u8 = 0;
+
+pub const RESET_REQ: u8 = 2;
+
+pub const RESET_DONE: u8 = 3;
+
+// A station after the reset rules, with the control items that go on every link out, in order.
 pub struct Turned {
     pub station: Station,
     pub first: u8,
@@ -207,7 +214,7 @@ fn turn_once(row: [u8; 8], t: Turned) -> Turned
                 return Turned {
                     station: renew(s),
                     first: t.first,
-                    second: 3,
+                    second: RESET_DONE,
                 };
             }
         }
@@ -224,7 +231,7 @@ fn turn_once(row: [u8; 8], t: Turned) -> Turned
             if some_seen(row, reqs) {
                 return Turned {
                     station: begin(s),
-                    first: 2,
+                    first: RESET_REQ,
                     second: t.second,
                 };
             }
@@ -253,8 +260,8 @@ pub fn turn(limits: [[u8; 8]; 8], i: usize, s: Station) -> Turned
         row,
         Turned {
             station: s,
-            first: 0,
-            second: 0,
+            first: NO_ITEM,
+            second: NO_ITEM,
         },
     )
 }
@@ -270,8 +277,8 @@ pub fn start(limits: [[u8; 8]; 8], i: usize, s: Station) -> Turned
         row,
         Turned {
             station: b,
-            first: 2,
-            second: 0,
+            first: RESET_REQ,
+            second: NO_ITEM,
         },
     )
 }

@@ -2,11 +2,5 @@ use borrow.Author.Tests.{lt-ltb, le-ltb}
 use Rattle.clock.proofs.ceiling.Statement.{statement}
 use Rattle.clock.proofs.ceiling.Tie as tie
 
-returns : tie.Need-returns
-returns c = rw (lt-ltb _ _ (c .if1 .taken))
-
-returns-2 : tie.Need-returns-2
-returns-2 c = rw (le-ltb _ _ (c .if1 .left))
-
 pub ceiling-spec : {M : Type 1} → statement M
-ceiling-spec = tie.close (tie.spec returns returns-2)
+ceiling-spec = tie.close (tie.spec (λ c. rw (lt-ltb _ _ (c .if1 .taken))) (λ c. rw (le-ltb _ _ (c .if1 .left))))

@@ -11,29 +11,13 @@ use Rattle.clock.specs.Range.{ceilingOf, countsFit}
 use Rattle.clock.proofs.counts_fit.Statement.{statement}
 use Rattle.clock.proofs.counts_fit.Tie as tie
 
-abbrev Inv-loop : tie.InvT-loop
-Inv-loop n t a ok₀ j₀ ok j = (j ≤ 8) × (ok ≡ every j (λ (k : ℕ). leb (getD a k 0) (ceilingOf n t k)))
-
-abbrev μ-loop : tie.MeasureT-loop
-μ-loop n t a ok₀ j₀ ok j = 8 - j
-
-loop-holds : tie.Need-loop-holds Inv-loop μ-loop
-loop-holds c = (omega arith, sym (every-none _))
-
-loop-again : tie.Need-loop-again Inv-loop μ-loop
-loop-again c = (omega arith, rw (every-turn, c .before .before .loop .inv .1, c .ceiling .ensures))
-
-returns : tie.Need-returns Inv-loop μ-loop
-unfolding countsFit
-returns c =
-    let e : c .before .loop .j ≡ 8 = omega arith in
-    rw e at (c .before .loop .inv .1)
-
 pub counts-fit-spec : {M : Type 1} → statement M
+unfolding countsFit
 counts-fit-spec =
     tie.close
     (tie.spec
-    Inv-loop
-    μ-loop
-    loop-holds (λ c. omega arith) (λ c. search needs) (λ c. search needs) (λ c κs. search needs)
-    (λ c. omega arith) (λ c. omega arith) loop-again returns)
+    (λ n t a ok₀ j₀ ok j. (j ≤ 8) × (ok ≡ every j (λ (k : ℕ). leb (getD a k 0) (ceilingOf n t k))))
+    (λ n t a ok₀ j₀ ok j. 8 - j)
+    (λ c. (omega arith, sym (every-none _))) (λ c. omega arith) (λ c. search needs) (λ c. search needs) (λ c κs. search needs) (λ c. omega arith) (λ c. omega arith)
+    (λ c. (omega arith, rw (every-turn, c .before .before .loop .inv .1, c .ceiling .ensures)))
+    (λ c. let e : c .before .loop .j ≡ 8 = omega arith in rw e at (c .before .loop .inv .1)))

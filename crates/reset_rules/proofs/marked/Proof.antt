@@ -6,8 +6,5 @@ use borrow.Author.Needs.{needs}
 use Rattle.reset_rules.proofs.marked.Statement.{statement}
 use Rattle.reset_rules.proofs.marked.Tie as tie
 
-returns : tie.Need-returns
-returns c = let a = c .args in sym (put-set false (a .marks) (a .j) true (omega arith))
-
 pub marked-spec : {M : Type 1} → statement M
-marked-spec = tie.close (tie.spec (λ c. search needs) returns)
+marked-spec = tie.close (tie.spec (λ c. search needs) (λ c. let a = c .args in sym (put-set false (a .marks) (a .j) true (omega arith))))

@@ -14,5 +14,4 @@ returns c =
     c .turn-once3 .ensures .0 d i r ∙ ap (slotOnce d i) (c .before .turn-once2 .ensures .0 d i r ∙ ap (slotOnce d i) (c .before .before .turn-once .ensures .0 d i r))
 
 pub turn-all-spec : {M : Type 1} → statement M
-turn-all-spec =
-    tie.close (tie.spec (λ c κs. search needs) (λ c κs. search needs) (λ c κs. search needs) returns)
+turn-all-spec = tie.close (tie.spec (λ c κs. search needs) (λ c κs. search needs) (λ c κs. search needs) returns)
