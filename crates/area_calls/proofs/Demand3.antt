@@ -12,9 +12,9 @@ use Rattle.reset.specs.Config.{Config, networkRules}
 use Rattle.reset.specs.Clock.{vector}
 use Rattle.reset.specs.State.{State}
 use Rattle.reset.specs.Steps.{Step, step}
-use Rattle.reset.specs.Network.{initial, Answered, log, run}
-use Rattle.reset.specs.WellFormed.{wellFormed}
-use Rattle.reset.proofs.Formed.{StepsFit, initial-well-formed, step-well-formed}
+use Rattle.reset.specs.Network.{initial, Answered, log}
+use Rattle.reset.specs.WellFormed.{wellFormed, StepsFit}
+use Rattle.reset.proofs.Formed.{initial-well-formed, step-well-formed}
 use Rattle.rules.specs.Setup.{blockConfig}
 use Rattle.rules.proofs.Laws.{accepted-well-made}
 use Rattle.causality.specs.Sound.{taken, withTaken, takens}
@@ -22,7 +22,7 @@ use Rattle.causality.proofs.Demand3.{demand3}
 use Rattle.area.specs.Layout.{image}
 use Rattle.area.proofs.Formed.{imaged as images, config-back, state-back, image-passes}
 use Rattle.area_calls.specs.Calls.{setupOn, imaged, stepOn}
-use Rattle.area_calls.specs.Sound.{logOn, runOn, takensOn, Demand3}
+use Rattle.area_calls.specs.Sound.{logOn, takensOn, Demand3}
 
 -- a step on the image of a well-formed state is the image of the network's step
 pub step-on-image : (c : Config) (s : State vector) → wellFormed c s ≡ true → (p : Step) → stepOn p (image c s) ≡ imaged c (step c s p)
@@ -31,7 +31,7 @@ step-on-image c s w p =
     let v = images c s w in
     rw (image-passes c s w, config-back c s v, state-back c s v)
 
--- so is a list of steps: its answers, the messages taken and the area after
+-- so is a list of steps: its answers, and the messages taken
 module _ (c : Config) where
   pub log-on-image : (s : State vector) → wellFormed c s ≡ true → (ps : List Step) → StepsFit ps → logOn (image c s) ps ≡ log c s ps
   log-on-image s w [] f = refl
@@ -43,10 +43,6 @@ module _ (c : Config) where
   takens-on-image s w (p ∷ ps) f =
       rw (step-on-image c s w p, state-back c s (images c s w))
       (ap (withTaken (step c s p .answer) (taken s p)) (takens-on-image (step c s p .after) (step-well-formed c s w p (f .0)) ps (f .1)))
-
-  pub run-on-image : (s : State vector) → wellFormed c s ≡ true → (ps : List Step) → StepsFit ps → runOn (image c s) ps ≡ image c (run c s ps)
-  run-on-image s w [] f = refl
-  run-on-image s w (p ∷ ps) f = rw (step-on-image c s w p) (run-on-image (step c s p .after) (step-well-formed c s w p (f .0)) ps (f .1))
 
 -- what setup accepts
 pub accepted : (block a : List ℕ) → setupOn block a .answer ≡ 0

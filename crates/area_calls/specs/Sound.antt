@@ -5,7 +5,7 @@ use mathlib.Core.List.{List, [], _∷_}
 use Rattle.codec.specs.Num.{AreBytes}
 use Rattle.reset.specs.Steps.{Step}
 use Rattle.reset.specs.Network.{Answered}
-use Rattle.reset.proofs.Formed.{StepsFit}
+use Rattle.reset.specs.WellFormed.{StepsFit}
 use Rattle.rules.specs.Setup.{blockConfig}
 use Rattle.causality.specs.Plain.{Message}
 use Rattle.causality.specs.Sound.{taken, withTaken, SoundLog}
@@ -16,11 +16,6 @@ use Rattle.area_calls.specs.Calls.{setupOn, stepOn}
 abbrev pub logOn : List ℕ → List Step → List Answered
 logOn a [] = []
 logOn a (p ∷ ps) = record { step = p; answer = stepOn p a .answer } ∷ logOn (stepOn p a .area) ps
-
--- the area after them
-abbrev pub runOn : List ℕ → List Step → List ℕ
-runOn a [] = a
-runOn a (p ∷ ps) = runOn (stepOn p a .area) ps
 
 -- of each accepted entry the message that its step took: the first item of its link in the area before
 abbrev pub takensOn : List ℕ → List Step → List (List Message)

@@ -1,7 +1,6 @@
 -- Every list of steps from the initial network makes a trace: what the state says of the entries so far is kept by every step. Assumes nothing.
 use Prim.Native.Nat.{ℕ, zero, suc, _+_, _≤_, _<_}
 use mathlib.Core.Path.{_≡_, refl, sym, ap, _∙_}
-use mathlib.Core.Logic.{_≢_}
 use mathlib.Core.List.{List, [], _∷_, _++_, append-nil, map, map-append}
 use mathlib.Core.Bool.{Bool, true, false, cond, _&&_, and-false, true≢false}
 use native.Mathlib.Omega.{arith}
@@ -20,7 +19,7 @@ use Rattle.reset.specs.Network.{initial, log, run}
 use Rattle.reset.proofs.Changes.{Tagged, waiting, sentOn, firstWith, gotOn, Move, stays, renews, Quiet, How, Enters, Summary}
 use Rattle.reset.proofs.Invariant.{Invariant}
 use Rattle.reset.proofs.Summary.{step-keeps, summary}
-use Rattle.reset.proofs.Runs.{initial-station, initial-waiting, initial-invariant}
+use Rattle.reset.proofs.Initial.{initial-station, initial-waiting, initial-invariant}
 use Rattle.causality.specs.Plain.{Message}
 use Rattle.causality.specs.HappenedBefore.{Accepted, withEntry, accepted, noEntry, entryAt, phaseOf, timestampOf, isSend, isRecv, count, GoesWith}
 use Rattle.causality.specs.Sound.{firstMessage, taken, withTaken, takens}

@@ -1,3 +1,4 @@
+pub mod Tables
 pub mod Order
 pub mod Trace
 pub mod TraceLaws

@@ -15,12 +15,13 @@ use Rattle.reset.specs.Clock.{Clock, vector}
 use Rattle.reset.specs.State.{Item, message, resetReq, resetDone, Station, State, stationAt, linkAt}
 use Rattle.reset.specs.Steps.{Step, stationOfStep, Answer, refused, entry, modeAfter, step}
 use Rattle.reset.specs.Network.{initial, log, run}
-use Rattle.reset.proofs.StepLaws.{Taker, answers-taker}
+use Rattle.reset.specs.Bears.{Taker}
+use Rattle.reset.proofs.StepLaws.{answers-taker}
 use Rattle.reset.proofs.Progress.{asked}
 use Rattle.reset.proofs.Changes.{Tagged, tags, Summary}
 use Rattle.reset.proofs.Invariant.{Invariant}
 use Rattle.reset.proofs.Summary.{step-keeps, summary}
-use Rattle.reset.proofs.Runs.{initial-station, initial-invariant}
+use Rattle.reset.proofs.Initial.{initial-station, initial-invariant}
 use Rattle.causality.specs.HappenedBefore.{Accepted, accepted, isRecv, count}
 use Rattle.causality.specs.Sound.{phaseIn, phaseFrom, phaseAfter, AllLeft}
 use Rattle.causality.proofs.Trace.{underWay}

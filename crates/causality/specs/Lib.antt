@@ -1,5 +1,4 @@
 pub mod Plain
 pub mod HappenedBefore
 pub mod Sound
-pub mod Tables
 pub mod Worked

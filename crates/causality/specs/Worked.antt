@@ -1,10 +1,10 @@
 -- What demand 3 speaks of, computed on worked lists: accepted entries, messages taken, the plain network of each phase, phases after, and happened-before
 -- beside the order of timestamps. Assumes nothing.
-use Prim.Native.Nat.{ℕ}
+use Prim.Native.Nat.{ℕ, _<_}
 use mathlib.Core.Path.{_≡_, refl}
 use mathlib.Core.Logic.{_↔_}
 use mathlib.Core.List.{List, [], _∷_, map}
-use mathlib.Core.Bool.{Bool, false, not, _&&_, _||_}
+use mathlib.Core.Bool.{Bool, true, false, not, _&&_, _||_}
 use lib.Dec.{eqb, leb}
 use lib.ListN.{getD, take, length, replicate}
 use Rattle.codec.specs.Every.{every, some}
@@ -17,11 +17,10 @@ use Rattle.reset.specs.Worked.{linesFrom, pair, middle, listing}
 use Rattle.causality.specs.Plain.{Message, at₁, at₂, plainInitial, stuck, told, plainTold, plainAfter, fed}
 use Rattle.causality.specs.HappenedBefore.{Accepted, accepted, phaseOf, timestampOf, HappenedBefore}
 use Rattle.causality.specs.Sound.{takens, toldOf, phaseAfter}
-use Rattle.causality.specs.Tables.{closed, justified, Inside, table-exact}
 
 -- the list's steps with their answers; unfolding it unfolds all that is computed here
 unfoldable pub logOf : Config → List Step → List Answered
-unfolding linesFrom at₁ at₂ closed justified
+unfolding linesFrom at₁ at₂
 logOf c ps = log c (initial vector c) ps
 
 abbrev pub takensOf : Config → List Step → List (List Message)
@@ -93,6 +92,10 @@ holds (x ∷ l) y = eqb x y || holds l y
 abbrev pub inTable : List (List ℕ) → ℕ → ℕ → Bool
 inTable t x y = holds (getD t x []) y
 
+-- two entries of E that a table R has
+abbrev pub Inside : List Accepted → (ℕ → ℕ → Bool) → ℕ → ℕ → Type 0
+Inside E R x y = (x < length E) × (y < length E) × (R x y ≡ true)
+
 -- a relation of n entries as rows of true and false
 abbrev rowsOf : ℕ → (ℕ → ℕ → Bool) → List (List Bool)
 rowsOf n R = upto n (λ (x : ℕ). upto n (R x))
@@ -121,14 +124,8 @@ pub record Orders (c : Config) (ps : List Step) (n : ℕ) (before less : List (L
   pub exact : (x y : ℕ) → HappenedBefore (accepted (logOf c ps)) x y ↔ Inside (accepted (logOf c ps)) (inTable before) x y
   pub timestamps : rowsOf n (lessIn (accepted (logOf c ps))) ≡ rowsOf n (inTable less)
 
-pub relayed-orders : Orders middle relayed 6 relayedTable relayedTable
-unfolding logOf
-relayed-orders = record { number = refl; exact = table-exact (accepted (logOf middle relayed)) (inTable relayedTable) refl refl; timestamps = refl }
-
-pub crossing-orders : Orders pair crossing 4 crossingTable []
-unfolding logOf
-crossing-orders = record { number = refl; exact = table-exact (accepted (logOf pair crossing)) (inTable crossingTable) refl refl; timestamps = refl }
-
-pub listing-orders : Orders pair listing 5 listingTable ((1 ∷ 2 ∷ []) ∷ (2 ∷ []) ∷ [] ∷ (4 ∷ []) ∷ [])
-unfolding logOf
-listing-orders = record { number = refl; exact = table-exact (accepted (logOf pair listing)) (inTable listingTable) refl refl; timestamps = refl }
+-- of the three lists: `worked-orders` in `proofs/Tables`
+pub record OrderedLists : Type 0 where
+  pub relayed-orders : Orders middle relayed 6 relayedTable relayedTable
+  pub crossing-orders : Orders pair crossing 4 crossingTable []
+  pub listing-orders : Orders pair listing 5 listingTable ((1 ∷ 2 ∷ []) ∷ (2 ∷ []) ∷ [] ∷ (4 ∷ []) ∷ [])

@@ -1,8 +1,8 @@
 -- What a well-made header, and one that keeps the network rules, says of its stations and links. Assumes nothing.
-use Prim.Native.Nat.{ℕ, _+_, _≤_, _<_}
+use Prim.Native.Nat.{ℕ, _≤_, _<_}
 use mathlib.Core.Path.{_≡_, refl, sym, ap, _∙_}
-use mathlib.Core.Logic.{_≢_, _↔_}
-use mathlib.Core.List.{List, []}
+use mathlib.Core.Logic.{_↔_}
+use mathlib.Core.List.{[]}
 use mathlib.Core.Bool.{Bool, true, false, not, _&&_, _||_, Bool·beq, true≢false}
 use native.Mathlib.Omega.{arith}
 use native.Mathlib.Decide.{decLt}
@@ -13,7 +13,7 @@ use Rattle.codec.specs.Every.{every}
 use Rattle.codec.proofs.EveryLaws.{both, every-at}
 use Rattle.reset.specs.Reach.{limit, linked, Reached, everyReached}
 use Rattle.reset.proofs.ReachLaws.{test-reached, reached-test}
-use Rattle.reset.specs.Config.{Config, neighbours, sizeFits, allowancesFit, limitFits, rowFits, limitsFit, wellMade, zeroAt, zeroDiagonal, bothOrNone, linkedBothWays, allowanceBelow, limitBelow, nothingAbove, sum, between, withinAt, withinCeiling, networkRules}
+use Rattle.reset.specs.Config.{Config, neighbours, sizeFits, allowancesFit, limitFits, rowFits, limitsFit, wellMade, zeroAt, zeroDiagonal, bothOrNone, linkedBothWays, allowanceBelow, limitBelow, nothingAbove, networkRules}
 
 -- the ranges and lengths of a well-made header
 pub record Shape (c : Config) : Type 0 where
@@ -95,19 +95,14 @@ pub record Rules (c : Config) : Type 0 where
   pub loopless : (i : ℕ) → neighbours c i i ≡ true → ⊥
   pub inside : (i j : ℕ) → neighbours c i j ≡ true → j < c .n
   pub small : c .n ≤ 8
-  pub reach : Reached (c .n) (c .limits)
-  pub ceiling : (i : ℕ) → i < 8 → getD (c .allowances) i 0 + sum 8 (between (c .limits) i) ≤ c .t
 
 module _ (c : Config) (h : wellMade c ≡ true) (r : networkRules c ≡ true) where
   parts : (zeroDiagonal (c .limits) ≡ true) × (linkedBothWays (c .limits) ≡ true) × (nothingAbove (c .n) (c .allowances) (c .limits) ≡ true)
-      × (everyReached (c .n) (c .limits) ≡ true) × (withinCeiling (c .t) (c .allowances) (c .limits) ≡ true)
   unfolding networkRules
   parts =
       let a = both (zeroDiagonal (c .limits)) _ r in
       let b = both (linkedBothWays (c .limits)) _ (a .1) in
-      let d = both (nothingAbove (c .n) (c .allowances) (c .limits)) _ (b .1) in
-      let e = both (everyReached (c .n) (c .limits)) _ (d .1) in
-      (a .0, b .0, d .0, e .0, e .1)
+      (a .0, b .0, both (nothingAbove (c .n) (c .allowances) (c .limits)) _ (b .1) .0)
 
   twin : (i j : ℕ) → i < 8 → j < 8 → bothOrNone (c .limits) i j ≡ true
   unfolding linkedBothWays
@@ -146,13 +141,11 @@ module _ (c : Config) (h : wellMade c ≡ true) (r : networkRules c ≡ true) wh
       last false b z p q = absurd (true≢false (sym q ∙ ap not p))
 
   pub rules : Rules c
-  unfolding neighbours withinCeiling
+  unfolding neighbours
   rules =
       record {
         both-ways = back;
         loopless = alone;
         inside = within-n;
         small = shape c h .small;
-        reach = reached-exactly c h .0 (parts .3);
-        ceiling = λ i l. leb-true _ _ (every-at 8 (withinAt (c .t) (c .allowances) (c .limits)) i (parts .4) l);
       }

@@ -16,12 +16,12 @@ use Rattle.reset.proofs.ConfigLaws.{Rules, rules}
 use Rattle.reset.specs.Clock.{vector}
 use Rattle.reset.specs.State.{Item, message, resetReq, resetDone, Station, State, stationAt, linkAt, sentTo}
 use Rattle.reset.specs.Steps.{phaseBounded, countBounded, linkBounded, inBounds, Step, doEnter, sending, doSend, doReceive, doMark, doStart, step}
-use Rattle.reset.specs.Network.{initialStation, initial, run}
+use Rattle.reset.specs.Network.{initialStation, initial}
 use Rattle.reset.specs.WellFormed.{registerFits, ofStation, countsFit, stationFits, itemFits, itemFitsAt, linkFits, shapeFits, stationFitsAt, linkFitsAt, wellFormed, stepFits}
 use Rattle.reset.proofs.Views.{zeros-at, station-set, station-set-link}
 use Rattle.reset.proofs.StepLaws.{of-step}
 use Rattle.reset.proofs.Keeps.{neighbour-small}
-use Rattle.reset.proofs.Runs.{initial-station, initial-link}
+use Rattle.reset.proofs.Initial.{initial-station, initial-link}
 use Rattle.reset.proofs.FormedParts.{counts-of, counts-fit, zeros-counts, zeros-sent, none-marks, Fits, fits-of, fits-back, fits-entered, fits-sending, fits-receiving, fits-req, fits-done, Shaped, shaped-of, shape-fits, ItemsFit, Parts, parts-station, parts-link, parts-put, parts-begin, parts-turn}
 
 -- ---- the tests of a whole state as facts
@@ -213,17 +213,8 @@ module _ (c : Config) where
       or-true false = refl
 
 -- ---- the theorems
--- a list of steps whose register numbers fit
-abbrev pub StepsFit : List Step → Type 0
-StepsFit [] = Unit {0}
-StepsFit (p ∷ ps) = (stepFits p ≡ true) × StepsFit ps
-
 pub initial-well-formed : (c : Config) → wellMade c ≡ true → networkRules c ≡ true → wellFormed c (initial vector c) ≡ true
 initial-well-formed c h r = formed-back c _ (initial-formed c (join (wellMade c) _ h r))
 
 pub step-well-formed : (c : Config) (s : State vector) → wellFormed c s ≡ true → (p : Step) → stepFits p ≡ true → wellFormed c (step c s p .after) ≡ true
 step-well-formed c s h p f = formed-back c _ (formed-step c s (formed-of c s h) p f)
-
-pub run-well-formed : (c : Config) (s : State vector) → wellFormed c s ≡ true → (ps : List Step) → StepsFit ps → wellFormed c (run c s ps) ≡ true
-run-well-formed c s h [] f = h
-run-well-formed c s h (p ∷ ps) f = run-well-formed c (step c s p .after) (step-well-formed c s h p (f .0)) ps (f .1)

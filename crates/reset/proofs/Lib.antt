@@ -1,3 +1,4 @@
+pub mod Cases
 pub mod Progress
 pub mod Views
 pub mod TurnLaws
@@ -10,7 +11,7 @@ pub mod Invariant
 pub mod Keeps
 pub mod Messages
 pub mod Summary
-pub mod Runs
+pub mod Initial
 pub mod Coherent
 pub mod FormedParts
 pub mod Formed

@@ -9,7 +9,8 @@ use borrow.Author.Tests.{not-false, leb-false}
 use Rattle.reset.specs.Config.{Config, isStation, neighbours, limitAt, allowanceAt}
 use Rattle.reset.specs.Clock.{Clock}
 use Rattle.reset.specs.State.{Mode, normal, mute, standBy, Item, message, resetReq, resetDone, State, stationAt, linkAt, doneSeen, sentTo}
-use Rattle.reset.specs.Steps.{Step, enter, send, recv, start, stationOfStep, Entry, Answer, refused, entry, modeAfter, Outcome, refuse, guard, inBounds, bounded, doEnter, maySend, doSend, doReceive, withReq, withDone, doMark, receive, doStart, isNormal, step}
+use Rattle.reset.specs.Bears.{Bears, Taker}
+use Rattle.reset.specs.Steps.{Step, enter, send, recv, start, Entry, refused, entry, modeAfter, Outcome, refuse, guard, inBounds, bounded, doEnter, maySend, doSend, doReceive, withReq, withDone, doMark, receive, doStart, isNormal, step}
 
 -- ---- the tests that refuse
 module _ {K : Clock} (c : Config) (s : State K) (P : Outcome K → Type 0) where
@@ -99,14 +100,6 @@ refused-leaves c s =
     })
 
 -- ---- an accepted entry's record says which step it was, and in which phase its station stood
-abbrev pub Bears : {K : Clock} → State K → Step → Entry → Type 0
-Bears s (enter i g) e = (e .kind ≡ 1) × (e .station ≡ i) × (e .peer ≡ 255) × (e .phase ≡ stationAt s i .phase) × (e .register ≡ g)
-Bears s (send i j g) e = (e .kind ≡ 2) × (e .station ≡ i) × (e .peer ≡ j) × (e .phase ≡ stationAt s i .phase) × (e .register ≡ g)
-Bears {K} s (recv i j) e =
-    (e .kind ≡ 3) × (e .station ≡ i) × (e .peer ≡ j) × (e .phase ≡ stationAt s i .phase)
-    × ((w : K .Load) × (q : List (Item K)) × (linkAt s j i ≡ message w (e .register) ∷ q))
-Bears s (start i) e = ⊥
-
 abbrev BearsAll : {K : Clock} → State K → Step → Outcome K → Type 0
 BearsAll s p o = (e : Entry) → o .answer ≡ entry e → Bears s p e
 
@@ -133,11 +126,6 @@ record-bears c s =
     })
 
 -- ---- an accepted step is answered for the station that took it
-abbrev pub Taker : Step → Answer → Type 0
-Taker p (refused k) = Unit {0}
-Taker p (entry e) = e .station ≡ stationOfStep p
-Taker p (modeAfter i m f) = i ≡ stationOfStep p
-
 abbrev TakerAll : {K : Clock} → Step → Outcome K → Type 0
 TakerAll p o = Taker p (o .answer)
 

@@ -11,9 +11,9 @@ use Rattle.reset.specs.Config.{Config, isStation, neighbours}
 use Rattle.reset.proofs.ConfigLaws.{Rules}
 use Rattle.reset.specs.Clock.{Clock}
 use Rattle.reset.specs.State.{normal, Item, message, Station, State, stationAt, linkAt, doneSeen, setStation, setLink}
-use Rattle.reset.specs.Steps.{begun, beginReset, Rule, ruleA, ruleB, ruleC, noRule, ruleOf, turnOnce, turn, Step, enter, send, recv, start, Outcome, doEnter, maySend, doSend, receiving, doReceive, doMark, doStart, step}
+use Rattle.reset.specs.Steps.{begun, beginReset, Rule, ruleA, ruleB, ruleC, noRule, ruleOf, applied, turnOnce, turn, Step, enter, send, recv, start, Outcome, doEnter, maySend, doSend, receiving, doReceive, doMark, doStart, step}
 use Rattle.reset.proofs.Views.{station-set, station-set-other, station-set-link, station-put-all}
-use Rattle.reset.proofs.TurnLaws.{applied, station-turn-once, station-turn-once-other, station-turn-other}
+use Rattle.reset.proofs.TurnLaws.{station-turn-once, station-turn-once-other, station-turn-other}
 use Rattle.reset.proofs.StepLaws.{of-step}
 use Rattle.reset.proofs.Changes.{Move, stays, renews, Quiet, Summary}
 use Rattle.reset.proofs.Invariant.{Invariant, Kept, kept-then}

@@ -7,7 +7,7 @@ use Rattle.codec.specs.Every.{every, some}
 use Rattle.reset.specs.Config.{Config, neighbours}
 use Rattle.reset.specs.Clock.{Clock}
 use Rattle.reset.specs.State.{Mode, normal, mute, standBy, Station, State, stationAt, reqSeen, doneSeen}
-use Rattle.reset.specs.Steps.{everyNeighbour, someNeighbour, begun, renewed, woken, beginReset, renew, wake, Rule, ruleA, ruleB, ruleC, noRule, ruleIn, ruleOf, apply, turnOnce, turn}
+use Rattle.reset.specs.Steps.{everyNeighbour, someNeighbour, begun, renewed, woken, beginReset, renew, wake, Rule, ruleA, ruleB, ruleC, noRule, ruleIn, ruleOf, applied, apply, turnOnce, turn}
 use Rattle.reset.proofs.Views.{none-at, station-set, station-set-other, station-put-all}
 
 -- ---- marks that nobody has
@@ -47,12 +47,6 @@ rule-tested c i x = go (x .mode) (everyNeighbour c i (reqSeen x)) (everyNeighbou
     go normal qa da false e q d r = tt
 
 -- ---- what a rule does to the record of its station, and to others
-abbrev pub applied : {K : Clock} → Station K → Rule → Station K
-applied x ruleA = renewed x
-applied x ruleB = woken x
-applied x ruleC = begun x
-applied x noRule = x
-
 abbrev pub next : {K : Clock} → Config → ℕ → Station K → Station K
 next c i x = applied x (ruleOf c i x)
 

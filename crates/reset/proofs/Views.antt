@@ -11,6 +11,7 @@ use Rattle.codec.proofs.PutLaws.{put-same, put-other}
 use Rattle.clock.specs.Timestamp.{zeros}
 use Rattle.reset.specs.Config.{Config, neighbours}
 use Rattle.reset.specs.Clock.{Clock}
+use Rattle.reset.proofs.Cases.{by-test, by-dec}
 use Rattle.reset.specs.State.{Item, Station, State, noneSeen, blankStation, stationAt, linkAt, setStation, setLink, putOn, putLinked, putFirst, putOnAll}
 
 -- ---- lists
@@ -63,11 +64,7 @@ module _ {K : Clock} (s : State K) (i j : ℕ) (q : List (Item K)) where
 module _ {K : Clock} (c : Config) (i : ℕ) (x : Item K) where
   station-put-linked : (s : State K) (j k : ℕ) → stationAt (putLinked c s i j x) k ≡ stationAt s k
   unfolding putLinked
-  station-put-linked s j k = go (neighbours c i j)
-    where
-      go : (t : Bool) → stationAt (cond t (putOn s i j x) s) k ≡ stationAt s k
-      go true = station-set-link s i j _ k
-      go false = refl
+  station-put-linked s j k = by-test (neighbours c i j) (λ e. rw e (station-set-link s i j _ k)) (λ e. rw e)
 
   link-put-linked : (s : State K) (j : ℕ) → neighbours c i j ≡ true → linkAt (putLinked c s i j x) i j ≡ linkAt s i j ++ (x ∷ [])
   unfolding putLinked
@@ -114,22 +111,17 @@ module _ {K : Clock} (c : Config) (i : ℕ) (x : Item K) where
     link-first-far : (m b : ℕ) → neighbours c i b ≡ false → linkAt (putFirst m c s i x) i b ≡ linkAt s i b
     unfolding putFirst
     link-first-far zero b h = refl
-    link-first-far (suc m) b h = go (ℕ-discrete b m) ∙ link-first-far m b h
-      where
-        go : Dec (b ≡ m) → linkAt (putLinked c (putFirst m c s i x) i m x) i b ≡ linkAt (putFirst m c s i x) i b
-        go (yes p) = rw p (link-put-linked-far (putFirst m c s i x) m (rw p at h))
-        go (no p) = link-put-linked-col (putFirst m c s i x) m b p
+    link-first-far (suc m) b h =
+        by-dec (ℕ-discrete b m) (λ p. rw p (link-put-linked-far (putFirst m c s i x) m (rw p at h))) (λ p. link-put-linked-col (putFirst m c s i x) m b p)
+        ∙ link-first-far m b h
 
     link-first : (m b : ℕ) → b < m → neighbours c i b ≡ true → linkAt (putFirst m c s i x) i b ≡ linkAt s i b ++ (x ∷ [])
     unfolding putFirst
     link-first zero b l h = absurd (omega arith)
-    link-first (suc m) b l h = go (ℕ-discrete b m) (link-first m b)
-      where
-        go : Dec (b ≡ m) → (b < m → neighbours c i b ≡ true → linkAt (putFirst m c s i x) i b ≡ linkAt s i b ++ (x ∷ []))
-            → linkAt (putLinked c (putFirst m c s i x) i m x) i b ≡ linkAt s i b ++ (x ∷ [])
-        go (yes p) f =
-            rw p (link-put-linked (putFirst m c s i x) m (rw p at h) ∙ ap (λ (q : List (Item K)). q ++ (x ∷ [])) (link-first-past m m (omega arith)))
-        go (no p) f = link-put-linked-col (putFirst m c s i x) m b p ∙ f (omega arith) h
+    link-first (suc m) b l h =
+        by-dec (ℕ-discrete b m)
+        (λ p. rw p (link-put-linked (putFirst m c s i x) m (rw p at h) ∙ rw (link-first-past m m (omega arith))))
+        (λ p. link-put-linked-col (putFirst m c s i x) m b p ∙ link-first m b (omega arith) h)
 
 module _ {K : Clock} (c : Config) (s : State K) (i : ℕ) (x : Item K) where
   pub station-put-all : (k : ℕ) → stationAt (putOnAll c s i x) k ≡ stationAt s k

@@ -3,6 +3,7 @@ pub mod Config
 pub mod Clock
 pub mod State
 pub mod Steps
+pub mod Bears
 pub mod Network
 pub mod WellFormed
 pub mod Worked

@@ -60,6 +60,13 @@ ruleIn normal everyReq everyDone someReq = cond someReq ruleC noRule
 abbrev pub ruleOf : {K : Clock} → Config → ℕ → Station K → Rule
 ruleOf c i x = ruleIn (x .mode) (everyNeighbour c i (reqSeen x)) (everyNeighbour c i (doneSeen x)) (someNeighbour c i (reqSeen x))
 
+-- the record after a rule
+abbrev pub applied : {K : Clock} → Station K → Rule → Station K
+applied x ruleA = renewed x
+applied x ruleB = woken x
+applied x ruleC = begun x
+applied x noRule = x
+
 -- a rule applied at station i
 abbrev pub apply : {K : Clock} → Config → ℕ → State K → Rule → State K
 apply c i s ruleA = renew c i s

@@ -1,6 +1,7 @@
 -- Well formed (document 01, "State area and host"): what every state area must hold. Each part is a test of its own. Assumes nothing.
 use Prim.Native.Nat.{ℕ}
-use mathlib.Core.List.{List, []}
+use mathlib.Core.Path.{_≡_}
+use mathlib.Core.List.{List, [], _∷_}
 use mathlib.Core.Bool.{Bool, true, not, cond, _&&_, _||_}
 use lib.Dec.{eqb, leb}
 use lib.ListN.{getD, length}
@@ -98,3 +99,8 @@ stepFits (enter i g) = registerFits g
 stepFits (send i j g) = registerFits g
 stepFits (recv i j) = true
 stepFits (start i) = true
+
+-- a list of steps whose register numbers fit
+abbrev pub StepsFit : List Step → Type 0
+StepsFit [] = Unit {0}
+StepsFit (p ∷ ps) = (stepFits p ≡ true) × StepsFit ps

@@ -7,9 +7,9 @@ use lib.ListN.{getD}
 use Rattle.reset.specs.Config.{Config, neighbours}
 use Rattle.reset.specs.Clock.{vector}
 use Rattle.reset.specs.State.{Mode, normal, mute, standBy, Station, reqSeen, doneSeen}
-use Rattle.reset.specs.Steps.{everyNeighbour, someNeighbour, Rule, ruleA, ruleB, ruleC, noRule, ruleOf, begun, renewed}
+use Rattle.reset.specs.Steps.{everyNeighbour, someNeighbour, Rule, ruleA, ruleB, ruleC, noRule, ruleOf, applied, begun, renewed}
 use Rattle.reset.proofs.Views.{none-at}
-use Rattle.reset.proofs.TurnLaws.{some-none, applied}
+use Rattle.reset.proofs.TurnLaws.{some-none}
 use Rattle.reset_rules.specs.Turn.{Turning, turnedBy, turnedOnce, turnedAll, turned, started}
 use Rattle.reset_rules.specs.Slots.{everySeen, someSeen, controlFits, Slots, slotItems, slotsView, turnedView, fresh, asked, slotBy, slotOnce, slotAll}
 use Rattle.reset_rules.specs.declared.Turned.{Turned}

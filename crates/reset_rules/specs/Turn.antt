@@ -5,8 +5,7 @@ use mathlib.Core.List.{List, [], _∷_, _++_}
 use Rattle.reset.specs.Config.{Config}
 use Rattle.reset.specs.Clock.{Clock}
 use Rattle.reset.specs.State.{Item, resetReq, resetDone, Station, State, putOnAll}
-use Rattle.reset.specs.Steps.{Rule, ruleA, ruleB, ruleC, noRule, ruleOf, begun}
-use Rattle.reset.proofs.TurnLaws.{applied}
+use Rattle.reset.specs.Steps.{Rule, ruleA, ruleB, ruleC, noRule, ruleOf, applied, begun}
 
 -- A record, and what was put on every link out so far.
 pub record Turning (K : Clock) : Type 0 where

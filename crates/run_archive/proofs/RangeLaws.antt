@@ -22,10 +22,10 @@ use Rattle.reset.specs.Clock.{vector}
 use Rattle.reset.specs.State.{Item, message, Station, State, stationAt}
 use Rattle.reset.specs.Steps.{Step, Entry, Answer, refused, entry, modeAfter, Outcome, entered, entryOf, sending, receiving, step}
 use Rattle.reset.specs.Network.{initial, log}
-use Rattle.reset.specs.WellFormed.{registerFits, ofStation, countFits, countsFit, modeFits, phaseFits, stationFits, itemFitsAt, linkFits, wellFormed, stepFits}
+use Rattle.reset.specs.WellFormed.{registerFits, ofStation, countFits, countsFit, modeFits, phaseFits, stationFits, itemFitsAt, linkFits, wellFormed, stepFits, StepsFit}
 use Rattle.reset.proofs.Views.{station-set, station-set-link}
 use Rattle.reset.proofs.StepLaws.{of-step, refused-entry, mode-entry}
-use Rattle.reset.proofs.Formed.{Formed, formed-of, StepsFit, initial-well-formed, step-well-formed}
+use Rattle.reset.proofs.Formed.{Formed, formed-of, initial-well-formed, step-well-formed}
 use Rattle.causality.specs.HappenedBefore.{Accepted, withEntry, accepted, entryAt}
 use Rattle.steps.specs.Answers.{recordOf}
 use Rattle.run_archive.specs.Claims.{InRange, AllInRange}

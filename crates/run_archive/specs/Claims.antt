@@ -1,10 +1,11 @@
--- What is claimed of the archive that the writers make of all accepted entries of a list of steps from the initial network. Assumes nothing.
+-- What is claimed of the archive that the writers make of all accepted entries of a list of steps, from the initial network and over areas. Assumes nothing.
 use Prim.Native.Nat.{ℕ, _+_, _≤_, _<_}
 use mathlib.Core.Path.{_≡_}
 use mathlib.Core.Logic.{_≢_, _↔_}
 use mathlib.Core.List.{List, List·Memᴰ}
 use mathlib.Core.Bool.{true}
 use lib.ListN.{length}
+use Rattle.codec.specs.Num.{AreBytes}
 use Rattle.codec.specs.Splice.{splice}
 use Rattle.codec.specs.Written.{wrote}
 use Rattle.clock.specs.declared.Verdict.the-variants.{Before, After, Same, Unordered}
@@ -20,9 +21,11 @@ use Rattle.reset.specs.Config.{Config, wellMade, networkRules}
 use Rattle.reset.specs.Clock.{vector}
 use Rattle.reset.specs.Steps.{Step, Entry}
 use Rattle.reset.specs.Network.{initial, log}
-use Rattle.reset.proofs.Formed.{StepsFit}
-use Rattle.rules.specs.Setup.{headerOf}
+use Rattle.reset.specs.WellFormed.{StepsFit}
+use Rattle.rules.specs.Setup.{blockConfig, headerOf}
 use Rattle.causality.specs.HappenedBefore.{Accepted, accepted, entryAt, phaseOf, HappenedBefore}
+use Rattle.area_calls.specs.Calls.{setupOn}
+use Rattle.area_calls.specs.Sound.{logOn}
 use Rattle.steps.specs.Answers.{recordOf}
 use Rattle.run_archive.specs.Made.{bytesOfEntry, blockRecords, madeBlock, blocksFor, archiveOf}
 
@@ -76,3 +79,20 @@ abbrev pub EveryArchive : Type 0
 EveryArchive =
     (c : Config) → wellMade c ≡ true → networkRules c ≡ true → (ps : List Step) → StepsFit ps → length (entriesOf c ps) ≤ 64424509425
     → Archived c (entriesOf c ps) × Tells (archiveOf c (entriesOf c ps)) (entriesOf c ps)
+
+-- ---- over areas
+-- the accepted entries of a list of steps over areas, from setup on
+abbrev pub entriesOn : List ℕ → List ℕ → List Step → List Accepted
+entriesOn block a ps = accepted (logOn (setupOn block a .buffer) ps)
+
+-- the archive of such entries: its header is the block that setup was given, and both claims hold
+pub record Chronicle (block : List ℕ) (E : List Accepted) : Type 0 where
+  pub header-is : imageHeader (headerOf (blockConfig block)) (blockConfig block .limits) ≡ block
+  pub archived : Archived (blockConfig block) E
+  pub tells : Tells (archiveOf (blockConfig block) E) E
+
+-- for every header block and area that setup accepts
+abbrev pub EveryChronicle : Type 0
+EveryChronicle =
+    (block a : List ℕ) → AreBytes block → setupOn block a .answer ≡ 0 → (ps : List Step) → StepsFit ps → length (entriesOn block a ps) ≤ 64424509425
+    → Chronicle block (entriesOn block a ps)

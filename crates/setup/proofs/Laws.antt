@@ -20,7 +20,7 @@ use Rattle.reset.specs.Config.{Config, neighbours}
 use Rattle.reset.specs.Clock.{vector}
 use Rattle.reset.specs.State.{stationAt}
 use Rattle.reset.specs.Network.{initial, initialStation}
-use Rattle.reset.proofs.Runs.{initial-station, initial-link}
+use Rattle.reset.proofs.Initial.{initial-station, initial-link}
 use Rattle.rules.specs.Setup.{blockConfig, headerOf}
 use Rattle.station.specs.Image.{imageStation}
 use Rattle.station.proofs.Laws as station

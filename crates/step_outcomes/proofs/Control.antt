@@ -13,8 +13,7 @@ use Rattle.codec.proofs.EveryLaws.{every-at, every-of}
 use Rattle.reset.specs.Config.{Config, neighbours, places}
 use Rattle.reset.specs.Clock.{Clock, vector}
 use Rattle.reset.specs.State.{Item, Station, State, stationAt, linkAt, setStation, putOnAll}
-use Rattle.reset.specs.Steps.{Rule, ruleA, ruleB, ruleC, noRule, ruleOf, countBounded, linkBounded, inBounds}
-use Rattle.reset.proofs.TurnLaws.{applied}
+use Rattle.reset.specs.Steps.{Rule, ruleA, ruleB, ruleC, noRule, ruleOf, applied, countBounded, linkBounded, inBounds}
 use Rattle.reset.proofs.Views.{zeros-at, station-set, station-set-other, link-set-station, station-put-all, link-put-all, link-put-all-far, link-put-all-row}
 use Rattle.reset_rules.specs.Turn.{Turning, turnedOnce, turnedAll, turned, started, putItems}
 use Rattle.step_outcomes.proofs.Local.{localBounds, Bounds, bool-iff, local}

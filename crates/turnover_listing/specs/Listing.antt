@@ -27,8 +27,8 @@ use Rattle.reset.specs.Clock.{vector}
 use Rattle.reset.specs.State.{State}
 use Rattle.reset.specs.Steps.{Step, enter, send, recv, start, stationOfStep, step}
 use Rattle.reset.specs.Network.{initial}
-use Rattle.reset.specs.WellFormed.{wellFormed}
-use Rattle.reset.proofs.Formed.{StepsFit, initial-well-formed, step-well-formed}
+use Rattle.reset.specs.WellFormed.{wellFormed, StepsFit}
+use Rattle.reset.proofs.Formed.{initial-well-formed, step-well-formed}
 use Rattle.reset.specs.Worked.{lines, pair, listing}
 use Rattle.reset.specs.WorkedStates.{headers}
 use Rattle.rules.specs.Setup.{blockConfig, headerOf}
