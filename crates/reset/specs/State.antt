@@ -61,6 +61,28 @@ abbrev pub sentTo : {K : Clock} → Station K → ℕ → ℕ
 sentTo x j = getD (x .sent) j 0
 
 -- ---- changes
+-- a record with one field replaced
+abbrev pub withTime : {K : Clock} → K .Time → Station K → Station K
+withTime t x = record { time = t; mode = x .mode; phase = x .phase; own = x .own; sent = x .sent; reqs = x .reqs; dones = x .dones }
+
+abbrev pub withMode : {K : Clock} → Mode → Station K → Station K
+withMode m x = record { time = x .time; mode = m; phase = x .phase; own = x .own; sent = x .sent; reqs = x .reqs; dones = x .dones }
+
+abbrev pub withPhase : {K : Clock} → ℕ → Station K → Station K
+withPhase p x = record { time = x .time; mode = x .mode; phase = p; own = x .own; sent = x .sent; reqs = x .reqs; dones = x .dones }
+
+abbrev pub withOwn : {K : Clock} → ℕ → Station K → Station K
+withOwn n x = record { time = x .time; mode = x .mode; phase = x .phase; own = n; sent = x .sent; reqs = x .reqs; dones = x .dones }
+
+abbrev pub withSent : {K : Clock} → List ℕ → Station K → Station K
+withSent l x = record { time = x .time; mode = x .mode; phase = x .phase; own = x .own; sent = l; reqs = x .reqs; dones = x .dones }
+
+abbrev pub withReqs : {K : Clock} → List Bool → Station K → Station K
+withReqs l x = record { time = x .time; mode = x .mode; phase = x .phase; own = x .own; sent = x .sent; reqs = l; dones = x .dones }
+
+abbrev pub withDones : {K : Clock} → List Bool → Station K → Station K
+withDones l x = record { time = x .time; mode = x .mode; phase = x .phase; own = x .own; sent = x .sent; reqs = x .reqs; dones = l }
+
 -- station i's record replaced by x
 unfoldable pub setStation : {K : Clock} → State K → ℕ → Station K → State K
 setStation s i x = record { stations = put blankStation (s .stations) i x; links = s .links }

@@ -9,7 +9,7 @@ use Rattle.codec.specs.Put.{put}
 use Rattle.clock.specs.Timestamp.{zeros}
 use Rattle.reset.specs.Config.{Config, isStation, neighbours, limitAt, allowanceAt, places}
 use Rattle.reset.specs.Clock.{Clock}
-use Rattle.reset.specs.State.{Mode, normal, mute, standBy, Item, message, resetReq, resetDone, Station, State, noneSeen, stationAt, linkAt, reqSeen, doneSeen, sentTo, setStation, setLink, putOn, putOnAll}
+use Rattle.reset.specs.State.{Mode, normal, mute, standBy, Item, message, resetReq, resetDone, Station, State, noneSeen, stationAt, linkAt, reqSeen, doneSeen, sentTo, withTime, withMode, withPhase, withOwn, withSent, withReqs, withDones, setStation, setLink, putOn, putOnAll}
 
 -- ---- begin and the reset rules (document 01: turning rules)
 -- p holds of every neighbour of i; of some neighbour of i
@@ -21,17 +21,15 @@ someNeighbour c i p = some 8 (λ (j : ℕ). neighbours c i j && p j)
 
 -- the record after begin: all dones seen are forgotten; mute
 abbrev pub begun : {K : Clock} → Station K → Station K
-begun x =
-    record { time = x .time; mode = mute; phase = x .phase; own = x .own; sent = x .sent; reqs = x .reqs; dones = noneSeen }
+begun x = withMode mute (withDones noneSeen x)
 
 -- the record after rule a: phase +1; counts, own entries and messages sent 0; reqs seen forgotten; stand-by
 abbrev pub renewed : {K : Clock} → Station K → Station K
-renewed {K} x =
-    record { time = K .start; mode = standBy; phase = suc (x .phase); own = 0; sent = zeros; reqs = noneSeen; dones = x .dones }
+renewed {K} x = withMode standBy (withPhase (suc (x .phase)) (withTime (K .start) (withOwn 0 (withSent zeros (withReqs noneSeen x)))))
 
 -- the record after rule b: normal
 abbrev pub woken : {K : Clock} → Station K → Station K
-woken x = record { time = x .time; mode = normal; phase = x .phase; own = x .own; sent = x .sent; reqs = x .reqs; dones = x .dones }
+woken x = withMode normal x
 
 -- begin, at station i: reset_req on every link out, and the record after begin
 unfoldable pub beginReset : {K : Clock} → Config → ℕ → State K → State K
@@ -147,8 +145,7 @@ bounded c s o = guard s (not (inBounds c (o .after))) 9 o
 -- ---- enter i reg: own count +1; the entry's timestamp (document 01: stamp) is the eight counts
 -- the record after it
 abbrev pub entered : {K : Clock} → ℕ → Station K → Station K
-entered {K} i x =
-    record { time = K .tick i (x .time); mode = x .mode; phase = x .phase; own = suc (x .own); sent = x .sent; reqs = x .reqs; dones = x .dones }
+entered {K} i x = withTime (K .tick i (x .time)) (withOwn (suc (x .own)) x)
 
 -- an entry's record: its kind, station i, peer j, register number g, and phase and counts of the station, whose record is x after the step
 abbrev pub entryOf : {K : Clock} → ℕ → ℕ → ℕ → ℕ → Station K → Entry
@@ -163,8 +160,7 @@ doEnter i g s =
 -- ---- send i j reg: own count +1; that timestamp and the register number are put on the link from i to j
 -- the record after it: one message more is sent on that link
 abbrev pub sending : {K : Clock} → ℕ → ℕ → Station K → Station K
-sending {K} i j x =
-    record { time = K .sent i j (K .tick i (x .time)); mode = x .mode; phase = x .phase; own = x .own; sent = put 0 (x .sent) j (suc (sentTo x j)); reqs = x .reqs; dones = x .dones }
+sending {K} i j x = withTime (K .sent i j (K .tick i (x .time))) (withSent (put 0 (x .sent) j (suc (sentTo x j))) x)
 
 -- the entry, of kind sent
 abbrev pub doSend : {K : Clock} → ℕ → ℕ → ℕ → State K → Outcome K
@@ -184,8 +180,7 @@ maySend standBy seen = seen
 -- ---- recv i j: station i takes the first item of the link from j to i, and leaves q there
 -- the record after a message: the counts are raised, own count +1
 abbrev pub receiving : {K : Clock} → ℕ → ℕ → K .Load → Station K → Station K
-receiving {K} i j w x =
-    record { time = K .take i j w (x .time); mode = x .mode; phase = x .phase; own = x .own; sent = x .sent; reqs = x .reqs; dones = x .dones }
+receiving {K} i j w x = withTime (K .take i j w (x .time)) x
 
 -- the entry, of kind received, with the message's register number
 abbrev pub doReceive : {K : Clock} → ℕ → ℕ → K .Load → ℕ → List (Item K) → State K → Outcome K
@@ -195,12 +190,10 @@ doReceive i j w g q s =
 
 -- reset_req marks req seen, reset_done marks done seen, each in any mode
 abbrev pub withReq : {K : Clock} → ℕ → Station K → Station K
-withReq j x =
-    record { time = x .time; mode = x .mode; phase = x .phase; own = x .own; sent = x .sent; reqs = put false (x .reqs) j true; dones = x .dones }
+withReq j x = withReqs (put false (x .reqs) j true) x
 
 abbrev pub withDone : {K : Clock} → ℕ → Station K → Station K
-withDone j x =
-    record { time = x .time; mode = x .mode; phase = x .phase; own = x .own; sent = x .sent; reqs = x .reqs; dones = put false (x .dones) j true }
+withDone j x = withDones (put false (x .dones) j true) x
 
 -- the reset rules run; the answer is station i's mode and phase after
 abbrev pub settle : {K : Clock} → Config → ℕ → State K → Outcome K

@@ -10,7 +10,7 @@ use Rattle.clock.specs.Timestamp.{zeros}
 use Rattle.reset.specs.Reach.{limit, linked, apart, joins, first, unseen, spreadBy, everyReached}
 use Rattle.reset.specs.Config.{Config, allowancesFit, limitsFit, wellMade, zeroDiagonal, linkedBothWays, nothingAbove, sum, withinCeiling, networkRules}
 use Rattle.reset.specs.Clock.{vector}
-use Rattle.reset.specs.State.{Mode, normal, mute, standBy, Item, message, resetReq, resetDone, Station, State, noneSeen, setStation, setLink}
+use Rattle.reset.specs.State.{Mode, normal, mute, standBy, Item, message, resetReq, resetDone, Station, State, blankStation, withTime, withPhase, withSent, withReqs, withDones, setStation, setLink}
 use Rattle.reset.specs.Steps.{Step, enter, send, recv, start}
 use Rattle.reset.specs.Network.{initial, run, quiescent}
 use Rattle.reset.specs.WellFormed.{countsFit, sentFits, marksFit, stationFits, linkFits, shapeFits, wellFormed}
@@ -96,7 +96,7 @@ held a b m p e f q d =
 
 -- one with these counts, and nothing else
 abbrev counting : List ℕ → Station vector
-counting v = record { time = v; mode = normal; phase = 0; own = 0; sent = zeros; reqs = noneSeen; dones = noneSeen }
+counting v = withTime v blankStation
 
 -- the initial state with that record, and with q on the link from i to j
 abbrev with : Station vector → State vector
@@ -111,7 +111,7 @@ notes n a b = replicate n (message (two 0 a b) 4294967295)
 
 -- the initial state with station 1 in a phase, and nothing else changed
 abbrev ahead : ℕ → State vector
-ahead p = setStation (initial vector pair) 1 (record { time = zeros; mode = normal; phase = p; own = 0; sent = zeros; reqs = noneSeen; dones = two false true false })
+ahead p = setStation (initial vector pair) 1 (withPhase p (withDones (two false true false) blankStation))
 
 -- unfolds all that the test and a step compute with
 unfoldable pub formedIn : Config → State vector → Bool
@@ -137,9 +137,9 @@ pub record States : Type 0 where
   pub wrong-own : formed (with (held 0 0 normal 0 4 0 false true)) ≡ false
   pub wrong-sent : formed (with (held 0 0 normal 0 0 3 false true)) ≡ false
   -- sent, req seen or done seen of a non-neighbour: station 0 itself
-  pub wrong-peer : (formed (with (record { time = zeros; mode = normal; phase = 0; own = 0; sent = two 0 1 0; reqs = noneSeen; dones = noneSeen })) ≡ false)
-      × (formed (with (record { time = zeros; mode = normal; phase = 0; own = 0; sent = zeros; reqs = two false true false; dones = noneSeen })) ≡ false)
-      × (formed (with (record { time = zeros; mode = normal; phase = 0; own = 0; sent = zeros; reqs = noneSeen; dones = two false true false })) ≡ false)
+  pub wrong-peer : (formed (with (withSent (two 0 1 0) blankStation)) ≡ false)
+      × (formed (with (withReqs (two false true false) blankStation)) ≡ false)
+      × (formed (with (withDones (two false true false) blankStation)) ≡ false)
   -- a station of n or above holds nothing
   pub nobody : (formed (setStation (initial vector pair) 2 (held 0 0 mute 0 0 0 false false)) ≡ false)
       × (formed (setStation (initial vector pair) 7 (held 0 0 normal 1 0 0 false false)) ≡ false)
