@@ -2,7 +2,7 @@
 use Prim.Native.Nat.{ℕ, zero, suc, _+_, _≤_, _<_}
 use mathlib.Core.Path.{_≡_, refl, sym, ap, _∙_}
 use mathlib.Core.List.{List, [], _∷_, _++_, append-nil, map, map-append}
-use mathlib.Core.Bool.{Bool, true, false, cond, _&&_, and-false, true≢false}
+use mathlib.Core.Bool.{Bool, true, false, _&&_, and-false, true≢false}
 use native.Mathlib.Omega.{arith}
 use native.Mathlib.Decide.{ℕ-discrete}
 use lib.Dec.{eqb}
@@ -25,6 +25,7 @@ use Rattle.causality.specs.HappenedBefore.{Accepted, withEntry, accepted
 use Rattle.causality.specs.Sound.{firstMessage, taken, withTaken, takens}
 use Rattle.causality.proofs.Trace.{recordStation, isOf, lastOf, countsBefore, those, underWay, Follows, own, sent, received}
 use Rattle.causality.proofs.TraceLaws.{drop-head, those-length, Nth, those-nth, fewer, stays-under-way, sent-under-way, first-under-way}
+use Rattle.reset.proofs.Cases.{by-test, by-dec}
 
 -- a send's message as a link has it, with the phase that it was sent in
 abbrev pub tagOf : Accepted → Tagged vector
@@ -46,11 +47,10 @@ pub record History (c : Config) (E : List Accepted) (T : List (List Message)) (s
 -- ---- no entry
 last-none : (E : List Accepted) (i f m : ℕ) → ((x : ℕ) → x < m → recordStation E x ≡ i → phaseOf E x ≡ f → ⊥) → lastOf E i f m ≡ zeros
 last-none E i f zero h = refl
-last-none E i f (suc m) h = go (isOf i f (entryAt E m)) refl (last-none E i f m (λ x l. h x (omega arith)))
-  where
-    go : (t : Bool) → isOf i f (entryAt E m) ≡ t → lastOf E i f m ≡ zeros → cond t (timestampOf E m) (lastOf E i f m) ≡ zeros
-    go true e r = let t = both (eqb (phaseOf E m) f) _ e in absurd (h m (omega arith) (eqb-true _ _ (t .1)) (eqb-true _ _ (t .0)))
-    go false e r = r
+last-none E i f (suc m) h =
+    by-test (isOf i f (entryAt E m))
+    (λ e. let t = both (eqb (phaseOf E m) f) _ e in absurd (h m (omega arith) (eqb-true _ _ (t .1)) (eqb-true _ _ (t .0))))
+    (λ e. rw e (last-none E i f m (λ x l. h x (omega arith))))
 
 move-up : (x x′ : Station vector) → Move x x′ → x .phase ≤ x′ .phase
 move-up x x′ (stays p t) = omega arith
@@ -115,7 +115,7 @@ module _ (c : Config) (E : List Accepted) (T : List (List Message)) (s s′ : St
         → Nth (isSend j i) E m (count (isRecv j i) E m) → Origin i j t
     origin-at i j e t full (x, xl, sx, nx) =
         let split : tagOf (entryAt E x) ∷ map tagOf (underWay E j i (suc m)) ≡ t ∷ waiting s′ j i =
-        ap (map tagOf) (sym (first-under-way E j i m x (rw e) (is-from i j e) xl sx nx)) ∙ full in
+        ap (map tagOf) (sym (first-under-way E j i m x (is-from i j e) xl sx nx)) ∙ full in
         (x, xl, sx, nx, cc, cc)
 
     origin : (i j : ℕ) → entryAt E m .step ≡ recv i j → (g : Way (recv i j)) → Origin i j (got i j g)
@@ -202,46 +202,33 @@ module _ (c : Config) (E : List Accepted) (T : List (List Message)) (s s′ : St
     new-unlinked (start i) e w a b n = rw e
 
     -- ---- the stations after it
-    new-times : (k : ℕ) → k < c .n → Dec (recordStation E m ≡ k) → stationAt s′ k .time ≡ lastOf E k (stationAt s′ k .phase) (suc m)
-    new-times k l (yes e) =
-        let p : phaseOf E m ≡ stationAt s′ k .phase = rw (← e) (en .phase-is ∙ sym (en .phase-same)) in
-        rw (eq-eqb (phaseOf E m) (stationAt s′ k .phase) p, eq-eqb (recordStation E m) k e) (rw (← e) (sym (en .counts-are)))
-    new-times k l (no e) =
-        rw (en .others k (λ q. e (sym q)), ne-eqb (recordStation E m) k e, and-false (eqb (phaseOf E m) (stationAt s k .phase))) (h .times k l)
+    new-times : (k : ℕ) → k < c .n → stationAt s′ k .time ≡ lastOf E k (stationAt s′ k .phase) (suc m)
+    new-times k l =
+        by-dec (ℕ-discrete (recordStation E m) k)
+        (λ e. let p : phaseOf E m ≡ stationAt s′ k .phase = rw (← e) (en .phase-is ∙ sym (en .phase-same)) in
+        rw (eq-eqb (phaseOf E m) (stationAt s′ k .phase) p, eq-eqb (recordStation E m) k e) (rw (← e) (sym (en .counts-are))))
+        (λ e. rw (en .others k (λ q. e (sym q)), ne-eqb (recordStation E m) k e, and-false (eqb (phaseOf E m) (stationAt s k .phase))) (h .times k l))
 
-    same-phase : (k : ℕ) → Dec (k ≡ recordStation E m) → stationAt s′ k .phase ≡ stationAt s k .phase
-    same-phase k (yes e) = rw e (en .phase-same)
-    same-phase k (no e) = ap (λ (x : Station vector). x .phase) (en .others k e)
+    same-phase : (k : ℕ) → stationAt s′ k .phase ≡ stationAt s k .phase
+    same-phase k = by-dec (ℕ-discrete k (recordStation E m)) (λ e. rw e (en .phase-same)) (λ e. rw (en .others k e))
 
-    new-above : (x : ℕ) → x < suc m → Dec (x ≡ m) → phaseOf E x ≤ stationAt s′ (recordStation E x) .phase
-    new-above x l (yes e) = rw e (omega (arith, en .phase-is, en .phase-same))
-    new-above x l (no e) = omega (arith, h .above x (omega arith), same-phase (recordStation E x) (ℕ-discrete (recordStation E x) (recordStation E m)))
-
-    new-phases : (x y : ℕ) → x < y → y < suc m → recordStation E x ≡ recordStation E y → Dec (y ≡ m) → phaseOf E x ≤ phaseOf E y
-    new-phases x y l k e (yes q) =
-        let a : phaseOf E x ≤ stationAt s (recordStation E m) .phase = rw (e ∙ ap (recordStation E) q) at (h .above x (omega arith)) in
-        rw q (omega (arith, en .phase-is))
-    new-phases x y l k e (no q) = h .phases x y l (omega arith) e
+    -- what holds of the entries before it, and of it
+    so-far : (P : ℕ → Type 0) → ((y : ℕ) → y < m → P y) → P m → (y : ℕ) → y < suc m → P y
+    so-far P f p y l = by-dec (ℕ-discrete y m) (λ e. rw e p) (λ e. f y (omega arith))
 
     entry-history : History c E T s′ (suc m)
     entry-history =
         record {
-          times = λ k l. new-times k l (ℕ-discrete (recordStation E m) k);
-          above = λ x l. new-above x l (ℕ-discrete x m);
+          times = new-times;
+          above = so-far (λ x. phaseOf E x ≤ stationAt s′ (recordStation E x) .phase) (λ x l. omega (arith, h .above x l, same-phase (recordStation E x)))
+              (omega (arith, en .phase-is, en .phase-same));
           links = new-links (entryAt E m .step) refl (en .how);
           unlinked = λ a b n. rw (new-unlinked (entryAt E m .step) refl (en .how) a b n) (append-nil _ ∙ h .unlinked a b n);
-          follows = λ y l. new-follows′ y l (ℕ-discrete y m);
-          inside = λ y l. new-inside y l (ℕ-discrete y m);
-          phases = λ x y l k e. new-phases x y l k e (ℕ-discrete y m);
+          follows = so-far (Follows E T) (h .follows) (new-follows (entryAt E m .step) refl (en .how));
+          inside = so-far (λ y. recordStation E y < c .n) (h .inside) (en .station-in);
+          phases = λ x y l k. so-far (λ y. x < y → recordStation E x ≡ recordStation E y → phaseOf E x ≤ phaseOf E y) (λ y k l e. h .phases x y l k e)
+              (λ l e. let a : phaseOf E x ≤ stationAt s (recordStation E m) .phase = rw e at (h .above x l) in omega (arith, en .phase-is)) y k l;
         }
-      where
-        new-follows′ : (y : ℕ) → y < suc m → Dec (y ≡ m) → Follows E T y
-        new-follows′ y l (yes e) = rw e (new-follows (entryAt E m .step) refl (en .how))
-        new-follows′ y l (no e) = h .follows y (omega arith)
-
-        new-inside : (y : ℕ) → y < suc m → Dec (y ≡ m) → recordStation E y < c .n
-        new-inside y l (yes e) = rw e (en .station-in)
-        new-inside y l (no e) = h .inside y (omega arith)
 
 -- ---- over a list of steps
 module _ (c : Config) (u : Rules c) (E : List Accepted) (T : List (List Message)) where

@@ -2,9 +2,10 @@
 -- another of its phase by edges exactly when none of its counts is greater. Assumes nothing.
 use Prim.Native.Nat.{ℕ, zero, suc, _≤_, _<_}
 use mathlib.Core.Path.{_≡_, refl, sym, subst}
-use mathlib.Core.Logic.{_≢_, _↔_, _⊎_, inl, inr}
+use mathlib.Core.Logic.{_≢_, _↔_, _⊎_, inl, inr, ⊎-elim}
 use native.Mathlib.Decide.{ℕ-discrete, decLt}
 use native.Mathlib.Omega.{arith}
+use Rattle.reset.proofs.Cases.{by-dec}
 
 -- the smallest transitive relation that has the edges
 pub data Chain (Edge : ℕ → ℕ → Type 0) : ℕ → ℕ → Type 0 where
@@ -49,18 +50,12 @@ module _ {n : ℕ} {station phase : ℕ → ℕ} {vc : ℕ → ℕ → ℕ} {Edg
   along (inr c) e = join c (edge e)
 
   back-step : (a b : ℕ) → a < n → ((y : ℕ) → y < b → Back a y) → Back a b
-  back-step a b al ih bl p le = go (ℕ-discrete (station a) (station b))
-    where
-      here : station a ≡ station b → Dec (a < b) → Dec (b < a) → (a ≡ b) ⊎ Chain Edge a b
-      here t (yes l) g = inr (edge (C .local a b l bl t))
-      here t (no l) (yes g) = absurd (omega (arith, C .rise b a (station a) g al (sym t) refl (sym p)))
-      here t (no l) (no g) = inl (omega arith)
-
-      go : Dec (station a ≡ station b) → (a ≡ b) ⊎ Chain Edge a b
-      go (yes t) = here t (decLt a b) (decLt b a)
-      go (no t) =
-          let (y, e, q, l) = C .from b (station a) bl t (omega (arith, C .some a al)) in
-          inr (along (ih y (C .up y b e) (omega (arith, C .up y b e)) (omega arith) (omega arith)) e)
+  back-step a b al ih bl p le =
+      by-dec (ℕ-discrete (station a) (station b))
+      (λ t. by-dec (decLt a b) (λ l. inr (edge (C .local a b l bl t)))
+      (λ l. by-dec (decLt b a) (λ g. absurd (omega (arith, C .rise b a (station a) g al (sym t) refl (sym p)))) (λ g. inl (omega arith))))
+      (λ t. let (y, e, q, l) = C .from b (station a) bl t (omega (arith, C .some a al)) in
+      inr (along (ih y (C .up y b e) (omega (arith, C .up y b e)) (omega arith) (omega arith)) e))
 
   below : (m a b : ℕ) → a < n → b < m → Back a b
   below zero a b al h = absurd (omega arith)
@@ -71,34 +66,22 @@ module _ {n : ℕ} {station phase : ℕ → ℕ} {vc : ℕ → ℕ → ℕ} {Edg
 
   -- at the end of a chain within a phase the own count is greater than at its start
   pub chain-rise : {a b : ℕ} → Chain Edge a b → phase a ≡ phase b → (k : ℕ) → k ≡ station b → vc a k < vc b k
-  chain-rise {a} {b} c p k q = go (decLt (vc a k) (vc b k))
-    where
-      no-back : (b ≡ a) ⊎ Chain Edge b a → ⊥
-      no-back (inl e) = omega (arith, chain-up c)
-      no-back (inr d) = omega (arith, chain-up c, chain-up d)
-
-      go : Dec (vc a k < vc b k) → vc a k < vc b k
-      go (yes l) = l
-      go (no l) = absurd (no-back (back b a (chain-ends c) (omega (arith, chain-up c, chain-ends c)) (sym p) (rw (← q) (omega arith))))
+  chain-rise {a} {b} c p k q =
+      by-dec (decLt (vc a k) (vc b k)) (λ l. l)
+      (λ l. absurd (⊎-elim (λ e. omega (arith, chain-up c)) (λ d. omega (arith, chain-up c, chain-up d))
+      (back b a (chain-ends c) (omega (arith, chain-up c, chain-ends c)) (sym p) (rw (← q) (omega arith)))))
 
   -- along a chain within a phase no count falls
   chain-grow : {a b : ℕ} → Chain Edge a b → phase a ≡ phase b → (k : ℕ) → vc a k ≤ vc b k
-  chain-grow {a} {b} (edge e) p k = go (ℕ-discrete k (station b))
-    where
-      go : Dec (k ≡ station b) → vc a k ≤ vc b k
-      go (yes q) = omega (arith, chain-rise (edge e) p k q)
-      go (no q) = C .grow a b e p k q
+  chain-grow {a} {b} (edge e) p k = by-dec (ℕ-discrete k (station b)) (λ q. omega (arith, chain-rise (edge e) p k q)) (C .grow a b e p k)
   chain-grow (join c d) p k =
-      omega (
-        arith,
-        chain-grow c (omega (arith, chain-later c, chain-later d)) k,
-        chain-grow d (omega (arith, chain-later c, chain-later d)) k,
-      )
+      let l = chain-later c in
+      let m = chain-later d in
+      omega (arith, chain-grow c (omega arith) k, chain-grow d (omega arith) k)
 
   -- so, within a phase, chains are exactly the order of counts
   pub chain-exactly : (a b : ℕ) → a < n → b < n → phase a ≡ phase b → Chain Edge a b ↔ ((a ≢ b) × ((k : ℕ) → vc a k ≤ vc b k))
-  chain-exactly a b al bl p = (λ c. (λ e. omega (arith, chain-up c), chain-grow c p), λ h. there (h .0) (back a b al bl p (h .1 (station a))))
-    where
-      there : a ≢ b → (a ≡ b) ⊎ Chain Edge a b → Chain Edge a b
-      there d (inl e) = absurd (d e)
-      there d (inr c) = c
+  chain-exactly a b al bl p = (
+    λ c. (λ e. omega (arith, chain-up c), chain-grow c p),
+    λ h. ⊎-elim (λ e. absurd (h .0 e)) (λ c. c) (back a b al bl p (h .1 (station a))),
+  )

@@ -3,7 +3,6 @@
 use Prim.Native.Nat.{ℕ, suc, _<_}
 use mathlib.Core.Path.{_≡_, refl, sym, ap, _∙_}
 use mathlib.Core.List.{List, [], _∷_, map}
-use mathlib.Core.Bool.{Bool, true, false, cond}
 use native.Mathlib.Omega.{arith}
 use lib.Dec.{eqb}
 use lib.ListN.{drop, length}
@@ -27,22 +26,20 @@ use Rattle.causality.specs.Sound.{phaseIn, phaseFrom, phaseAfter, AllLef
 use Rattle.causality.proofs.Trace.{underWay}
 use Rattle.causality.proofs.TracePlain.{messagesOf}
 use Rattle.causality.proofs.History.{tagOf, run-history}
+use Rattle.reset.proofs.Cases.{by-test, clash}
 
 module _ {K : Clock} (c : Config) (i : ℕ) where
   -- one step
   phase-in : (s s′ : State K) (p : Step) (a : Answer) → Taker p a → Summary c s p a s′
       → phaseIn (eqb (stationOfStep p) i) a (stationAt s i .phase) ≡ stationAt s′ i .phase
   phase-in s s′ p (refused k) w h = rw h
-  phase-in s s′ p (entry e) w h = rw (← w) (go (eqb (e .station) i) refl)
-    where
-      go : (t : Bool) → eqb (e .station) i ≡ t → cond t (e .phase) (stationAt s i .phase) ≡ stationAt s′ i .phase
-      go true q = rw (← eqb-true (e .station) i q) (h .phase-is ∙ sym (h .phase-same))
-      go false q = ap (λ (x : Station K). x .phase) (sym (h .others i (λ z. eqb-false _ _ q (sym z))))
-  phase-in s s′ p (modeAfter j m f) w h = rw (← w) (go (eqb j i) refl)
-    where
-      go : (t : Bool) → eqb j i ≡ t → cond t f (stationAt s i .phase) ≡ stationAt s′ i .phase
-      go true q = rw (← eqb-true j i q) (sym (h .phase-is))
-      go false q = ap (λ (x : Station K). x .phase) (sym (h .others i (λ z. eqb-false _ _ q (sym z))))
+  phase-in s s′ p (entry e) w h =
+      rw (← w)
+      (by-test (eqb (e .station) i) (λ q. rw (q, ← eqb-true (e .station) i q) (h .phase-is ∙ sym (h .phase-same)))
+      (λ q. rw (q, h .others i (λ z. eqb-false _ _ q (sym z)))))
+  phase-in s s′ p (modeAfter j m f) w h =
+      rw (← w)
+      (by-test (eqb j i) (λ q. rw (q, ← eqb-true j i q) (sym (h .phase-is))) (λ q. rw (q, h .others i (λ z. eqb-false _ _ q (sym z)))))
 
   phase-from : Rules c → (s : State K) → Invariant c s → (ps : List Step) → phaseFrom i (stationAt s i .phase) (log c s ps) ≡ stationAt (run c s ps) i .phase
   phase-from u s v [] = refl
@@ -61,7 +58,7 @@ phase-after K c u i l ps =
 -- of messages that lie in phase r and later, none is of a phase below
 none-below : (f : ℕ) (l : List Accepted) (r : ℕ) (q : List (Item vector)) → map tagOf l ≡ tags r q → f < r → messagesOf f l ≡ []
 none-below f [] r q e h = refl
-none-below f (x ∷ l) r [] e h = let z : _≡_ {A = ℕ} 0 1 = cc in absurd (omega arith)
+none-below f (x ∷ l) r [] e h = clash (cc)
 none-below f (x ∷ l) r (message w g ∷ q) e h =
     let y : tagOf x ≡ record { phase = r; load = w; register = g } = cc in
     let t : map tagOf l ≡ tags r q = cc in
@@ -73,16 +70,11 @@ none-below f (x ∷ l) r (resetDone ∷ q) e h = none-below f (x ∷ l) r q e h
 module _ (c : Config) (u : Rules c) (ps : List Step) where
   pub none-under-way : (f : ℕ) → AllLeft (c .n) f (log c (initial vector c) ps) → (a b : ℕ)
       → let E = accepted (log c (initial vector c) ps) in messagesOf f (underWay E a b (length E)) ≡ []
-  none-under-way f left a b = go (neighbours c a b) refl
-    where
-      E : List Accepted
-      E = accepted (log c (initial vector c) ps)
-
-      go : (t : Bool) → neighbours c a b ≡ t → messagesOf f (underWay E a b (length E)) ≡ []
-      go true n =
-          let s = run c (initial vector c) ps in
-          let l = u .inside a b n in
-          let h : f < stationAt s b .phase = rw (← phase-after vector c u b l ps) (left b l) in
-          none-below f (underWay E a b (length E)) (asked (stationAt s b) a) (linkAt s a b) (run-history c u ps .links a b n) (omega arith)
-      go false n =
-          ap (messagesOf f) (ap (drop (count (isRecv a b) E (length E))) (run-history c u ps .unlinked a b n) ∙ drop-nil (count (isRecv a b) E (length E)))
+  none-under-way f left a b =
+      let s = run c (initial vector c) ps in
+      let E = accepted (log c (initial vector c) ps) in
+      by-test (neighbours c a b)
+      (λ n. let l = u .inside a b n in
+      let h : f < stationAt s b .phase = rw (← phase-after vector c u b l ps) (left b l) in
+      none-below f (underWay E a b (length E)) (asked (stationAt s b) a) (linkAt s a b) (run-history c u ps .links a b n) (omega arith))
+      (λ n. ap (messagesOf f) (ap (drop (count (isRecv a b) E (length E))) (run-history c u ps .unlinked a b n) ∙ drop-nil (count (isRecv a b) E (length E))))

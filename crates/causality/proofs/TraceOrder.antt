@@ -1,9 +1,9 @@
 -- In a trace, happened-before within a phase is timestamp order, and each message is received as it was sent. Assumes nothing.
-use Prim.Native.Nat.{ℕ, zero, suc, _+_, _≤_, _<_, max}
+use Prim.Native.Nat.{ℕ, zero, suc, _≤_, _<_, max}
 use mathlib.Core.Path.{_≡_, refl, sym, ap, _∙_}
-use mathlib.Core.Logic.{_≢_, _↔_}
-use mathlib.Core.List.{List, [], _∷_}
-use mathlib.Core.Bool.{Bool, true, false, cond, true≢false}
+use mathlib.Core.Logic.{_≢_}
+use mathlib.Core.List.{List}
+use mathlib.Core.Bool.{true}
 use native.Mathlib.Omega.{arith}
 use native.Mathlib.Decide.{ℕ-discrete, decLt, decLe}
 use lib.Dec.{eqb}
@@ -11,16 +11,16 @@ use lib.ListN.{getD, length, length-replicate, List·getD-eq-default}
 use borrow.Author.Tests.{eqb-true, eq-eqb}
 use Rattle.codec.proofs.EveryLaws.{both}
 use Rattle.codec.proofs.PutLaws.{put-same, put-other, put-keeps}
-use Rattle.clock.specs.Timestamp.{zeros, tick, merged, raised, Less}
+use Rattle.clock.specs.Timestamp.{zeros, tick, merged, raised}
 use Rattle.clock.proofs.MergeLaws.{merged-length, merged-at}
-use Rattle.reset.specs.Steps.{stationOfStep}
 use Rattle.reset.proofs.Views.{zeros-at}
 use Rattle.causality.specs.Plain.{Message}
 use Rattle.causality.specs.HappenedBefore.{Accepted, entryAt, stationOf, phaseOf, timestampOf, GoesWith, HappenedBefore, same-station, sent-received, chain}
-use Rattle.causality.specs.Sound.{sentMessage, ReceivedAsSent, OrderedByTimestamp}
-use Rattle.causality.proofs.Trace.{recordStation, isOf, numberOf, lastOf, countsBefore, Follows, own, sent, received, Trace}
-use Rattle.causality.proofs.TraceLaws.{own-no-recv, send-no-recv, goes-one}
+use Rattle.causality.specs.Sound.{ReceivedAsSent, OrderedByTimestamp}
+use Rattle.causality.proofs.Trace.{recordStation, isOf, numberOf, lastOf, countsBefore, received, Trace}
+use Rattle.causality.proofs.TraceLaws.{goes-one, by-follows, follows-station}
 use Rattle.causality.proofs.Order.{Chain, edge, join, Clocked, chain-rise, chain-exactly}
+use Rattle.reset.proofs.Cases.{by-test, by-dec, clash}
 
 -- ---- counts of eight
 zeros-length : length zeros ≡ 8
@@ -28,15 +28,13 @@ unfolding zeros
 zeros-length = length-replicate {A = ℕ} 8 0
 
 raised-other : (i k : ℕ) (v w : List ℕ) → length v ≡ length w → k ≢ i → getD (raised i v w) k 0 ≡ max (getD v k 0) (getD w k 0)
-raised-other i k v w e n = put-other 0 (merged v w) i k _ n ∙ go (decLt k (length v))
-  where
-    go : Dec (k < length v) → getD (merged v w) k 0 ≡ max (getD v k 0) (getD w k 0)
-    go (yes l) = merged-at v w k l
-    go (no l) =
-        let a : getD (merged v w) k 0 ≡ 0 = List·getD-eq-default (merged v w) 0 (omega (arith, merged-length v w)) in
-        let b : getD v k 0 ≡ 0 = List·getD-eq-default v 0 (omega arith) in
-        let d : getD w k 0 ≡ 0 = List·getD-eq-default w 0 (omega arith) in
-        omega arith
+raised-other i k v w e n =
+    put-other 0 (merged v w) i k _ n
+    ∙ by-dec (decLt k (length v)) (merged-at v w k)
+    (λ l. let a : getD (merged v w) k 0 ≡ 0 = List·getD-eq-default (merged v w) 0 (omega (arith, merged-length v w)) in
+    let b : getD v k 0 ≡ 0 = List·getD-eq-default v 0 (omega arith) in
+    let d : getD w k 0 ≡ 0 = List·getD-eq-default w 0 (omega arith) in
+    omega arith)
 
 -- ---- the relation's sources
 pub data Edge (E : List Accepted) : ℕ → ℕ → Type 0 where
@@ -56,22 +54,17 @@ module _ (E : List Accepted) (T : List (List Message)) (R : Trace E T) where
   -- ---- every timestamp has eight counts
   last-length : (i f m : ℕ) → ((y : ℕ) → y < m → length (timestampOf E y) ≡ 8) → length (lastOf E i f m) ≡ 8
   last-length i f zero h = zeros-length
-  last-length i f (suc m) h = go (isOf i f (entryAt E m)) (last-length i f m (λ y l. h y (omega arith)))
-    where
-      go : (t : Bool) → length (lastOf E i f m) ≡ 8 → length (cond t (timestampOf E m) (lastOf E i f m)) ≡ 8
-      go true e = h m (omega arith)
-      go false e = e
+  last-length i f (suc m) h =
+      by-test (isOf i f (entryAt E m)) (λ t. rw t (h m (omega arith))) (λ t. rw t (last-length i f m (λ y l. h y (omega arith))))
 
   lengths : (m y : ℕ) → y < m → y < length E → length (timestampOf E y) ≡ 8
   lengths zero y l yl = absurd (omega arith)
-  lengths (suc m) y l yl = go (R .follows y yl) (last-length (recordStation E y) (phaseOf E y) y (λ z zl. lengths m z (omega arith) (omega arith)))
-    where
-      go : Follows E T y → length (countsBefore E y) ≡ 8 → length (timestampOf E y) ≡ 8
-      go (own g s t e) b = ap length e ∙ put-keeps 0 (countsBefore E y) _ _ (omega (arith, R .small y yl)) ∙ b
-      go (sent j s t e) b = ap length e ∙ put-keeps 0 (countsBefore E y) _ _ (omega (arith, R .small y yl)) ∙ b
-      go (received j x s xl g p t e) b =
-          ap length e ∙ put-keeps 0 (merged (countsBefore E y) (timestampOf E x)) _ _ (omega (arith, R .small y yl, merged-length (countsBefore E y) (timestampOf E x)))
-          ∙ merged-length (countsBefore E y) (timestampOf E x) ∙ b
+  lengths (suc m) y l yl =
+      let b = last-length (recordStation E y) (phaseOf E y) y (λ z zl. lengths m z (omega arith) (omega arith)) in
+      let s = R .small y yl in
+      by-follows (R .follows y yl) (λ n e. ap length e ∙ put-keeps 0 (countsBefore E y) _ _ (omega arith) ∙ b)
+      (λ x xl g p t e. let k = merged-length (countsBefore E y) (timestampOf E x) in
+      ap length e ∙ put-keeps 0 (merged (countsBefore E y) (timestampOf E x)) _ _ (omega arith) ∙ k ∙ b)
 
   eight : (y : ℕ) → y < length E → length (timestampOf E y) ≡ 8
   eight y yl = lengths (suc y) y (omega arith) yl
@@ -81,12 +74,10 @@ module _ (E : List Accepted) (T : List (List Message)) (R : Trace E T) where
 
   -- ---- an entry's counts over those before it
   own-rises : (y : ℕ) → y < length E → vc E y (recordStation E y) ≡ suc (getD (countsBefore E y) (recordStation E y) 0)
-  own-rises y yl = go (R .follows y yl)
-    where
-      go : Follows E T y → vc E y (recordStation E y) ≡ suc (getD (countsBefore E y) (recordStation E y) 0)
-      go (own g s t e) = ap (λ (v : List ℕ). getD v (recordStation E y) 0) e ∙ put-same 0 (countsBefore E y) _ _
-      go (sent j s t e) = ap (λ (v : List ℕ). getD v (recordStation E y) 0) e ∙ put-same 0 (countsBefore E y) _ _
-      go (received j x s xl g p t e) = ap (λ (v : List ℕ). getD v (recordStation E y) 0) e ∙ put-same 0 (merged (countsBefore E y) (timestampOf E x)) _ _
+  own-rises y yl =
+      by-follows (R .follows y yl)
+      (λ n e. ap (λ (v : List ℕ). getD v (recordStation E y) 0) e ∙ put-same 0 (countsBefore E y) _ _)
+      (λ x xl g p t e. ap (λ (v : List ℕ). getD v (recordStation E y) 0) e ∙ put-same 0 (merged (countsBefore E y) (timestampOf E x)) _ _)
 
   -- the other counts of an entry that takes no message
   ticked-other : (y k : ℕ) → k ≢ recordStation E y → timestampOf E y ≡ tick (recordStation E y) (countsBefore E y) → vc E y k ≡ getD (countsBefore E y) k 0
@@ -100,29 +91,22 @@ module _ (E : List Accepted) (T : List (List Message)) (R : Trace E T) where
 
   -- no count falls
   none-falls : (y k : ℕ) → y < length E → getD (countsBefore E y) k 0 ≤ vc E y k
-  none-falls y k yl = go (R .follows y yl) (ℕ-discrete k (recordStation E y))
-    where
-      go : Follows E T y → Dec (k ≡ recordStation E y) → getD (countsBefore E y) k 0 ≤ vc E y k
-      go r (yes q) = rw q (omega (arith, own-rises y yl))
-      go (own g s t e) (no q) = omega (arith, ticked-other y k q e)
-      go (sent j s t e) (no q) = omega (arith, ticked-other y k q e)
-      go (received j x s xl g p t e) (no q) = omega (arith, raised-to x y k xl yl q e)
+  none-falls y k yl =
+      by-dec (ℕ-discrete k (recordStation E y)) (λ q. rw q (omega (arith, own-rises y yl)))
+      (λ q. by-follows (R .follows y yl) (λ n e. omega (arith, ticked-other y k q e)) (λ x xl g p t e. omega (arith, raised-to x y k xl yl q e)))
 
   -- ---- the entries of a station in a phase
   -- no count falls from one to the last
   reach : (i f m x k : ℕ) → x < m → m ≤ length E → recordStation E x ≡ i → phaseOf E x ≡ f → vc E x k ≤ getD (lastOf E i f m) k 0
   reach i f zero x k l ml s p = absurd (omega arith)
-  reach i f (suc m) x k l ml s p = go (ℕ-discrete x m) (isOf i f (entryAt E m)) refl (λ xl. reach i f m x k xl (omega arith) s p)
-    where
-      go : Dec (x ≡ m) → (t : Bool) → isOf i f (entryAt E m) ≡ t → (x < m → vc E x k ≤ getD (lastOf E i f m) k 0)
-          → vc E x k ≤ getD (cond t (timestampOf E m) (lastOf E i f m)) k 0
-      go (yes q) true h f = rw q (omega arith)
-      go (yes q) false h r = absurd (true≢false (sym (is-of E i f m (rw q at s) (rw q at p)) ∙ h))
-      go (no q) true h r =
-          let t = of-is E i f m h in
-          let n : getD (lastOf E i f m) k 0 ≤ vc E m k = rw (t .0, t .1) at (none-falls m k (omega arith)) in
-          omega (arith, r (omega arith))
-      go (no q) false h r = r (omega arith)
+  reach i f (suc m) x k l ml s p =
+      by-dec (ℕ-discrete x m) (λ q. rw (is-of E i f m (rw q at s) (rw q at p), q) (omega arith))
+      (λ q. let r = reach i f m x k (omega arith) (omega arith) s p in
+      by-test (isOf i f (entryAt E m))
+      (λ h. let t = of-is E i f m h in
+      let n : getD (lastOf E i f m) k 0 ≤ vc E m k = rw (t .0, t .1) at (none-falls m k (omega arith)) in
+      rw h (omega arith))
+      (λ h. rw h r))
 
   -- the last is one of them
   abbrev Found : ℕ → ℕ → ℕ → ℕ → Type 0
@@ -130,25 +114,21 @@ module _ (E : List Accepted) (T : List (List Message)) (R : Trace E T) where
 
   last-found : (i f m k : ℕ) → zero < getD (lastOf E i f m) k 0 → Found i f m k
   last-found i f zero k h = absurd (omega (arith, zeros-at k))
-  last-found i f (suc m) k h = go (isOf i f (entryAt E m)) refl h (last-found i f m k)
-    where
-      go : (t : Bool) → isOf i f (entryAt E m) ≡ t → zero < getD (cond t (timestampOf E m) (lastOf E i f m)) k 0 → (zero < getD (lastOf E i f m) k 0 → Found i f m k)
-          → (y : ℕ) × (y < suc m) × (recordStation E y ≡ i) × (phaseOf E y ≡ f) × (vc E y k ≡ getD (cond t (timestampOf E m) (lastOf E i f m)) k 0)
-      go true e l r = let t = of-is E i f m e in (m, omega arith, t .0, t .1, refl)
-      go false e l r = let z = r l in (z .0, let a = z .1 in omega arith, z .2, z .3, z .4)
+  last-found i f (suc m) k h =
+      by-test (isOf i f (entryAt E m))
+      (λ e. let t = of-is E i f m e in (m, omega arith, t .0, t .1, rw e))
+      (λ e. let z = last-found i f m k (rw e at h) in (z .0, let a = z .1 in omega arith, z .2, z .3, rw e (z .4)))
 
   -- its own count is their number
   last-own : (i f m : ℕ) → m ≤ length E → getD (lastOf E i f m) i 0 ≡ numberOf E i f m
   last-own i f zero l = zeros-at i
-  last-own i f (suc m) l = go (isOf i f (entryAt E m)) refl (last-own i f m (omega arith))
-    where
-      go : (t : Bool) → isOf i f (entryAt E m) ≡ t → getD (lastOf E i f m) i 0 ≡ numberOf E i f m
-          → getD (cond t (timestampOf E m) (lastOf E i f m)) i 0 ≡ numberOf E i f m + cond t 1 0
-      go true e r =
-          let t = of-is E i f m e in
-          let o : vc E m i ≡ suc (getD (lastOf E i f m) i 0) = rw (t .0, t .1) at (own-rises m (omega arith)) in
-          omega arith
-      go false e r = omega arith
+  last-own i f (suc m) l =
+      let r = last-own i f m (omega arith) in
+      by-test (isOf i f (entryAt E m))
+      (λ e. let t = of-is E i f m e in
+      let o : vc E m i ≡ suc (getD (lastOf E i f m) i 0) = rw (t .0, t .1) at (own-rises m (omega arith)) in
+      rw e (omega arith))
+      (λ e. rw e (omega arith))
 
   -- the own counts of a station in a phase are 1, 2, 3 .., each once, in list order
   pub own-counts : (y : ℕ) → y < length E → vc E y (recordStation E y) ≡ suc (numberOf E (recordStation E y) (phaseOf E y) y)
@@ -156,23 +136,14 @@ module _ (E : List Accepted) (T : List (List Message)) (R : Trace E T) where
 
   -- ---- what goes with a receipt
   goes-says : (x y : ℕ) → GoesWith E x y → (x < y) × (phaseOf E x ≡ phaseOf E y) × ((k : ℕ) → k ≢ recordStation E y → vc E x k ≤ vc E y k)
-  goes-says x y g = go (R .follows y (g .y-in))
-    where
-      go : Follows E T y → (x < y) × (phaseOf E x ≡ phaseOf E y) × ((k : ℕ) → k ≢ recordStation E y → vc E x k ≤ vc E y k)
-      go (own r s t e) = own-no-recv (g .a) (g .b) (entryAt E y .step) (g .received) (recordStation E y) r s
-      go (sent j s t e) = send-no-recv (g .a) (g .b) (entryAt E y .step) (g .received) (recordStation E y) j _ s
-      go (received j z s zl h p t e) =
-          let q : x ≡ z = goes-one E x z y g h in
-          (omega arith, ap (phaseOf E) q ∙ p, λ k n. omega (arith, ap (λ (w : ℕ). vc E w k) q, raised-to z y k zl (g .y-in) n e))
+  goes-says x y g =
+      by-follows (R .follows y (g .y-in)) (λ n e. clash (sym (g .received) ∙ n (g .a) (g .b)))
+      (λ z zl h p t e. let q : x ≡ z = goes-one E x z y g h in
+      (omega arith, ap (phaseOf E) q ∙ p, λ k n. omega (arith, ap (λ (w : ℕ). vc E w k) q, raised-to z y k zl (g .y-in) n e)))
 
   -- each message is received as it was sent
   pub as-sent : ReceivedAsSent E T
-  as-sent y a b yl r = go (R .follows y yl)
-    where
-      go : Follows E T y → (x : ℕ) × (x < y) × GoesWith E x y × (phaseOf E x ≡ phaseOf E y) × (getD T y [] ≡ sentMessage (entryAt E x) ∷ [])
-      go (own g s t e) = own-no-recv a b (entryAt E y .step) r (recordStation E y) g s
-      go (sent j s t e) = send-no-recv a b (entryAt E y .step) r (recordStation E y) j _ s
-      go (received j x s xl g p t e) = (x, xl, g, p, t)
+  as-sent y a b yl r = by-follows (R .follows y yl) (λ n e. clash (sym r ∙ n a b)) (λ x xl g p t e. (x, xl, g, p, t))
 
   -- ---- a trace is clocked
   edge-up : (x y : ℕ) → Edge E x y → x < y
@@ -210,19 +181,10 @@ module _ (E : List Accepted) (T : List (List Message)) (R : Trace E T) where
       (z .0, stationed (z .1) yl (z .2), z .3, let q = z .4 in omega arith)
 
   from : (y k : ℕ) → y < length E → k ≢ recordStation E y → zero < vc E y k → From y k
-  from y k yl n h = go (R .follows y yl)
-    where
-      ticked : timestampOf E y ≡ tick (recordStation E y) (countsBefore E y) → From y k
-      ticked e = let q = ticked-other y k n e in from-before y k yl (omega arith) (omega arith)
-
-      go : Follows E T y → From y k
-      go (own g s t e) = ticked e
-      go (sent j s t e) = ticked e
-      go (received j x s xl g p t e) = side (decLe (vc E y k) (vc E x k))
-        where
-          side : Dec (vc E y k ≤ vc E x k) → From y k
-          side (yes l) = (x, messaged g, p, l)
-          side (no l) = let q = raised-to x y k xl yl n e in from-before y k yl (omega arith) (omega arith)
+  from y k yl n h =
+      by-follows (R .follows y yl) (λ z e. let q = ticked-other y k n e in from-before y k yl (omega arith) (omega arith))
+      (λ x xl g p t e. by-dec (decLe (vc E y k) (vc E x k)) (λ l. (x, messaged g, p, l))
+      (λ l. let q = raised-to x y k xl yl n e in from-before y k yl (omega arith) (omega arith)))
 
   pub clocked : Clocked (length E) (recordStation E) (phaseOf E) (vc E) (Edge E)
   clocked =
@@ -240,12 +202,7 @@ module _ (E : List Accepted) (T : List (List Message)) (R : Trace E T) where
 
   -- ---- happened-before goes by these edges: an entry's record bears the station that took its step
   takes : (x : ℕ) → x < length E → stationOf E x ≡ recordStation E x
-  takes x xl = go (R .follows x xl)
-    where
-      go : Follows E T x → stationOf E x ≡ recordStation E x
-      go (own g s t e) = ap stationOfStep s
-      go (sent j s t e) = ap stationOfStep s
-      go (received j z s zl g p t e) = ap stationOfStep s
+  takes x xl = follows-station (R .follows x xl)
 
   pub to-chain : {x y : ℕ} → HappenedBefore E x y → Chain (Edge E) x y
   to-chain (same-station l m e) = edge (stationed l m (sym (takes _ (omega arith)) ∙ e ∙ takes _ m))
@@ -259,15 +216,9 @@ module _ (E : List Accepted) (T : List (List Message)) (R : Trace E T) where
 
   -- happened-before within a phase is timestamp order
   pub by-timestamp : OrderedByTimestamp E
-  by-timestamp x y xl yl p = (there, here)
-    where
-      exactly : Chain (Edge E) x y ↔ ((x ≢ y) × ((k : ℕ) → vc E x k ≤ vc E y k))
-      exactly = chain-exactly clocked x y xl yl p
-
-      there : HappenedBefore E x y → Less (timestampOf E x) (timestampOf E y)
-      there h =
-          let c = to-chain h in
-          (λ e. omega (arith, chain-rise clocked c p (recordStation E y) refl, ap (λ (v : List ℕ). getD v (recordStation E y) 0) e), exactly .0 c .1)
-
-      here : Less (timestampOf E x) (timestampOf E y) → HappenedBefore E x y
-      here h = from-chain (exactly .1 (λ q. h .0 (ap (timestampOf E) q), h .1))
+  by-timestamp x y xl yl p =
+      let exactly = chain-exactly clocked x y xl yl p in (
+        λ h. let c = to-chain h in
+            (λ e. omega (arith, chain-rise clocked c p (recordStation E y) refl, ap (λ (v : List ℕ). getD v (recordStation E y) 0) e), exactly .0 c .1),
+        λ h. from-chain (exactly .1 (λ q. h .0 (ap (timestampOf E) q), h .1)),
+      )

@@ -1,10 +1,10 @@
 -- The plain network of each phase does what a trace says: fed the trace's entries of that phase, it gives their timestamps and the messages that they took,
 -- and its queues hold the messages of that phase that are under way. Assumes nothing.
 use Prim.Native.Nat.{ℕ, suc, _+_, _<_}
-use mathlib.Core.Path.{_≡_, refl, sym, ap, subst, _∙_}
+use mathlib.Core.Path.{_≡_, refl, sym, ap, _∙_}
 use mathlib.Core.Logic.{_≢_}
 use mathlib.Core.List.{List, [], _∷_, _++_, append-nil}
-use mathlib.Core.Bool.{Bool, true, false, cond, _&&_, true≢false}
+use mathlib.Core.Bool.{Bool, true, false, cond, _&&_}
 use native.Mathlib.Omega.{arith}
 use lib.Dec.{eqb}
 use lib.ListN.{getD, drop, length}
@@ -12,11 +12,12 @@ use borrow.Author.Tests.{eqb-true, eqb-false, eq-eqb, ne-eqb}
 use Rattle.codec.proofs.EveryLaws.{both}
 use Rattle.clock.specs.Timestamp.{tick, raised}
 use Rattle.reset.specs.Steps.{enter, send, recv}
-use Rattle.causality.specs.Plain.{Message, Plain, plainInitial, at₁, at₂, Result, nothing, gives, plainTake, plainStep, Told, stuck, told, plainTold, plainAfter}
+use Rattle.causality.specs.Plain.{Message, Plain, plainInitial, at₁, at₂, gives, plainTake, plainStep, Told, told, plainTold, plainAfter}
 use Rattle.causality.specs.HappenedBefore.{Accepted, noEntry, entryAt, phaseOf, timestampOf, isSend, isRecv, GoesWith}
 use Rattle.causality.specs.Sound.{sentMessage, toldOf}
 use Rattle.causality.proofs.Trace.{recordStation, lastOf, countsBefore, underWay, fedOf, Follows, own, sent, received, Trace}
-use Rattle.causality.proofs.TraceLaws.{own-no-recv, send-no-recv, goes-on, fewer, drop-head, stays-under-way, sent-under-way, first-under-way}
+use Rattle.causality.proofs.TraceLaws.{goes-on, by-follows, fewer, drop-head, stays-under-way, sent-under-way, first-under-way}
+use Rattle.reset.proofs.Cases.{by-test, clash}
 
 -- ---- of phase f alone
 -- the messages of the sends l
@@ -26,12 +27,8 @@ messagesOf f (x ∷ l) = cond (eqb (x .entry .phase) f) (sentMessage x ∷ messa
 
 messages-append : (f : ℕ) (l m : List Accepted) → messagesOf f (l ++ m) ≡ messagesOf f l ++ messagesOf f m
 messages-append f [] m = refl
-messages-append f (x ∷ l) m = go (eqb (x .entry .phase) f) (messages-append f l m)
-  where
-    go : (t : Bool) → messagesOf f (l ++ m) ≡ messagesOf f l ++ messagesOf f m
-        → cond t (sentMessage x ∷ messagesOf f (l ++ m)) (messagesOf f (l ++ m)) ≡ cond t (sentMessage x ∷ messagesOf f l) (messagesOf f l) ++ messagesOf f m
-    go true e = ap {B = List Message} (λ k. sentMessage x ∷ k) e
-    go false e = e
+messages-append f (x ∷ l) m =
+    by-test (eqb (x .entry .phase) f) (λ t. rw (t, messages-append f l m)) (λ t. rw (t, messages-append f l m))
 
 -- ---- the plain network after the first m entries
 pub record Stands (E : List Accepted) (f m : ℕ) (P : Plain) : Type 0 where
@@ -43,24 +40,22 @@ module _ (E : List Accepted) (T : List (List Message)) (R : Trace E T) (f : ℕ)
   other-phase : (x : Accepted) (l : List Accepted) → x .entry .phase ≢ f → messagesOf f (x ∷ l) ≡ messagesOf f l
   other-phase x l n = rw (ne-eqb (x .entry .phase) f n)
 
-  skipped : (m : ℕ) → m < length E → phaseOf E m ≢ f → Follows E T m → (a b : ℕ) (s r : Bool) → isSend a b (entryAt E m .step) ≡ s → isRecv a b (entryAt E m .step) ≡ r
-      → messagesOf f (underWay E a b (suc m)) ≡ messagesOf f (underWay E a b m)
-  skipped m l n w a b false false hs hr = ap (messagesOf f) (stays-under-way E a b m hs hr)
-  skipped m l n w a b true false hs hr =
-      ap (messagesOf f) (sent-under-way E a b m hs hr (fewer E T a b m (λ y yl. R .follows y (omega arith))))
-      ∙ messages-append f (underWay E a b m) _ ∙ ap (λ (k : List Message). messagesOf f (underWay E a b m) ++ k) (other-phase (entryAt E m) [] n) ∙ append-nil _
-  skipped m l n (own g e t z) a b s true hs hr = own-no-recv a b (entryAt E m .step) hr (recordStation E m) g e
-  skipped m l n (sent j e t z) a b s true hs hr = send-no-recv a b (entryAt E m .step) hr (recordStation E m) j _ e
-  skipped m l n (received j x e xl g p t z) a b true true hs hr = absurd (true≢false (sym (rw e at hs)))
-  skipped m l n (received j x e xl g p t z) a b false true hs hr =
-      let k = goes-on E x m a b g hr in
-      sym (ap (messagesOf f) (first-under-way E a b m x hs hr xl (k .0) (k .1)) ∙ other-phase (entryAt E x) (underWay E a b (suc m)) (λ q. n (sym p ∙ q)))
+  skipped : (m : ℕ) → m < length E → phaseOf E m ≢ f → (a b : ℕ) → messagesOf f (underWay E a b (suc m)) ≡ messagesOf f (underWay E a b m)
+  skipped m l n a b =
+      by-test (isRecv a b (entryAt E m .step))
+      (λ hr. by-follows (R .follows m l) (λ k e. clash (sym hr ∙ k a b))
+      (λ x xl g p t z. let k = goes-on E x m a b g hr in
+      sym (ap (messagesOf f) (first-under-way E a b m x hr xl (k .0) (k .1)) ∙ other-phase (entryAt E x) (underWay E a b (suc m)) (λ q. n (sym p ∙ q)))))
+      (λ hr. by-test (isSend a b (entryAt E m .step))
+      (λ hs. ap (messagesOf f) (sent-under-way E a b m hs hr (fewer E T a b m (λ y yl. R .follows y (omega arith))))
+      ∙ messages-append f (underWay E a b m) _ ∙ rw (other-phase (entryAt E m) [] n) (append-nil _))
+      (λ hs. ap (messagesOf f) (stays-under-way E a b m hs hr)))
 
   skip : (m : ℕ) (P : Plain) → m < length E → phaseOf E m ≢ f → Stands E f m P → Stands E f (suc m) P
   skip m P l n h =
       record {
         counts = λ i. rw (ne-eqb (phaseOf E m) f n) (h .counts i);
-        queues = λ a b. h .queues a b ∙ sym (skipped m l n (R .follows m l) a b _ _ refl refl);
+        queues = λ a b. h .queues a b ∙ sym (skipped m l n a b);
       }
 
   -- an entry of phase f: the plain network does the same
@@ -119,7 +114,7 @@ module _ (E : List Accepted) (T : List (List Message)) (R : Trace E T) (f : ℕ)
         )
       where
         taken : (a b : ℕ) → isRecv a b (entryAt E m .step) ≡ true → underWay E a b m ≡ entryAt E x ∷ underWay E a b (suc m)
-        taken a b r = let k = goes-on E x m a b g r in first-under-way E a b m x (rw e) r xl (k .0) (k .1)
+        taken a b r = let k = goes-on E x m a b g r in first-under-way E a b m x r xl (k .0) (k .1)
 
         first : P .queue j (recordStation E m) ≡ sentMessage (entryAt E x) ∷ messagesOf f (underWay E j (recordStation E m) (suc m))
         first =
@@ -144,19 +139,12 @@ Runs E f P X U = (plainTold P (fedOf f X) ≡ toldOf f X U) × Stands E f (lengt
 module _ (E : List Accepted) (T : List (List Message)) (R : Trace E T) (f : ℕ) where
   one : (m : ℕ) (P : Plain) (X : List Accepted) (U : List (List Message)) → m < length E → Stands E f m P → ((Q : Plain) → Stands E f (suc m) Q → Runs E f Q X U)
       → Runs E f P (entryAt E m ∷ X) (getD T m [] ∷ U)
-  one m P X U l h r = go (eqb (phaseOf E m) f) refl
-    where
-      go : (t : Bool) → eqb (phaseOf E m) f ≡ t
-          → (plainTold P (cond t (entryAt E m .step ∷ fedOf f X) (fedOf f X)) ≡ cond t (told (timestampOf E m) (getD T m []) ∷ toldOf f X U) (toldOf f X U))
-          × Stands E f (length E) (plainAfter P (cond t (entryAt E m .step ∷ fedOf f X) (fedOf f X)))
-      go true e =
-          let d = does E T R f m P l (eqb-true _ _ e) h (R .follows m l) in
-          let n = r (d .0) (d .2) in (
-            ap (λ (z : Result). elim z as (λ y. List Told) [ nothing ↦ stuck ∷ [] | gives v k Q ↦ told v k ∷ plainTold Q (fedOf f X) ]) (d .1)
-                ∙ ap {B = List Told} (λ k. told (timestampOf E m) (getD T m []) ∷ k) (n .0),
-            subst (Stands E f (length E)) (sym (ap (λ (z : Result). elim z as (λ y. Plain) [ nothing ↦ P | gives v k Q ↦ plainAfter Q (fedOf f X) ]) (d .1))) (n .1),
-          )
-      go false e = r P (skip E T R f m P l (eqb-false _ _ e) h)
+  one m P X U l h r =
+      by-test (eqb (phaseOf E m) f)
+      (λ e. let d = does E T R f m P l (eqb-true _ _ e) h (R .follows m l) in
+      let n = r (d .0) (d .2) in
+      rw (e, d .1, plainTold, plainAfter) (ap {B = List Told} (λ k. told (timestampOf E m) (getD T m []) ∷ k) (n .0), n .1))
+      (λ e. rw e (r P (skip E T R f m P l (eqb-false _ _ e) h)))
 
   walk : (X : List Accepted) (U : List (List Message)) (m : ℕ) (P : Plain) → drop m E ≡ X → drop m T ≡ U
       → m + length X ≡ length E → length U ≡ length X → Stands E f m P → Runs E f P X U

@@ -1,6 +1,6 @@
 -- What every state that steps reach from the initial network satisfies: later theorems start from this record. Assumes nothing.
 use Prim.Native.Nat.{ℕ, _<_}
-use mathlib.Core.Path.{_≡_, ap, _∙_}
+use mathlib.Core.Path.{_≡_, _∙_}
 use mathlib.Core.Logic.{_≢_}
 use native.Mathlib.Omega.{arith}
 use native.Mathlib.Decide.{ℕ-discrete}
@@ -16,6 +16,7 @@ use Rattle.reset.proofs.StepLaws.{of-step}
 use Rattle.reset.proofs.Invariant.{Invariant}
 use Rattle.reset.proofs.Summary.{step-keeps}
 use Rattle.reset.proofs.Initial.{initial-station, initial-invariant}
+use Rattle.reset.proofs.Cases.{by-dec}
 
 -- no reset rule applies at any station
 abbrev pub Rests : {K : Clock} → Config → State K → Type 0
@@ -30,19 +31,11 @@ pub record Coherent {K : Clock} (c : Config) (s : State K) : Type 0 where
 module _ {K : Clock} (c : Config) (s : State K) (r : Rests c s) where
   -- a record that the rules read as before
   rests-same : (i : ℕ) (s′ : State K) → ruleOf c i (stationAt s′ i) ≡ ruleOf c i (stationAt s i) → ((k : ℕ) → k ≢ i → stationAt s′ k ≡ stationAt s k) → Rests c s′
-  rests-same i s′ h os k l = go (ℕ-discrete k i)
-    where
-      go : Dec (k ≡ i) → ruleOf c k (stationAt s′ k) ≡ noRule
-      go (yes p) = rw p (h ∙ (rw p at (r k l)))
-      go (no p) = ap (ruleOf c k) (os k p) ∙ r k l
+  rests-same i s′ h os k l = by-dec (ℕ-discrete k i) (λ p. rw p (h ∙ (rw p at (r k l)))) (λ p. rw (os k p) (r k l))
 
   -- the reset rules were run
   rests-turn : (i : ℕ) (s′ : State K) → ((k : ℕ) → k ≢ i → stationAt s′ k ≡ stationAt s k) → Rests c (turn c i s′)
-  rests-turn i s′ os k l = go (ℕ-discrete k i)
-    where
-      go : Dec (k ≡ i) → ruleOf c k (stationAt (turn c i s′) k) ≡ noRule
-      go (yes p) = rw p (no-rule-left c i s′)
-      go (no p) = ap (ruleOf c k) (station-turn-other c i s′ k p ∙ os k p) ∙ r k l
+  rests-turn i s′ os k l = by-dec (ℕ-discrete k i) (λ p. rw p (no-rule-left c i s′)) (λ p. rw (station-turn-other c i s′ k p, os k p) (r k l))
 
   begin-others : (i k : ℕ) → k ≢ i → stationAt (beginReset c i s) k ≡ stationAt s k
   unfolding beginReset

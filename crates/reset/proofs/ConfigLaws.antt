@@ -1,9 +1,9 @@
 -- What a well-made header, and one that keeps the network rules, says of its stations and links. Assumes nothing.
 use Prim.Native.Nat.{ℕ, _≤_, _<_}
-use mathlib.Core.Path.{_≡_, refl, sym, ap, _∙_}
+use mathlib.Core.Path.{_≡_, sym}
 use mathlib.Core.Logic.{_↔_}
 use mathlib.Core.List.{[]}
-use mathlib.Core.Bool.{Bool, true, false, not, _&&_, _||_, Bool·beq, true≢false}
+use mathlib.Core.Bool.{true, _&&_, and-false}
 use native.Mathlib.Omega.{arith}
 use native.Mathlib.Decide.{decLt}
 use lib.Dec.{eqb, leb, ltb}
@@ -14,6 +14,7 @@ use Rattle.codec.proofs.EveryLaws.{both, every-at}
 use Rattle.reset.specs.Reach.{limit, linked, Reached, everyReached}
 use Rattle.reset.proofs.ReachLaws.{test-reached, reached-test}
 use Rattle.reset.specs.Config.{Config, neighbours, sizeFits, allowancesFit, limitFits, rowFits, limitsFit, wellMade, zeroAt, zeroDiagonal, bothOrNone, linkedBothWays, allowanceBelow, limitBelow, nothingAbove, networkRules}
+use Rattle.reset.proofs.Cases.{by-test, by-dec, clash}
 
 -- the ranges and lengths of a well-made header
 pub record Shape (c : Config) : Type 0 where
@@ -59,31 +60,17 @@ module _ (c : Config) (h : wellMade c ≡ true) where
   -- outside the table there is no link
   limit-past : (i j : ℕ) → (i < 8 → j < 8 → ⊥) → limit (c .limits) i j ≡ 0
   unfolding limit
-  limit-past i j f = go (decLt i 8)
-    where
-      go : Dec (i < 8) → getD (getD (c .limits) i []) j 0 ≡ 0
-      go (yes l) = List·getD-eq-default (getD (c .limits) i []) 0 (let r = shape .row8 i l in let z : 8 ≤ j = far j (f l) in omega arith)
-        where
-          far : (j : ℕ) → (j < 8 → ⊥) → 8 ≤ j
-          far j g = at (decLt j 8)
-            where
-              at : Dec (j < 8) → 8 ≤ j
-              at (yes q) = absurd (g q)
-              at (no q) = omega arith
-      go (no l) = rw (List·getD-eq-default (c .limits) [] {n = i} (let r = shape .rows8 in omega arith))
+  limit-past i j f =
+      by-dec (decLt i 8)
+      (λ l. List·getD-eq-default (getD (c .limits) i []) 0 (by-dec (decLt j 8) (λ q. absurd (f l q)) (λ q. omega (arith, shape .row8 i l))))
+      (λ l. rw (List·getD-eq-default (c .limits) [] {n = i} (omega (arith, shape .rows8))))
 
   -- a link joins two of the eight
   pub linked-small : (i j : ℕ) → linked (c .limits) i j ≡ true → (i < 8) × (j < 8)
   unfolding linked
-  linked-small i j e = go (decLt i 8) (decLt j 8)
-    where
-      none : (i < 8 → j < 8 → ⊥) → (i < 8) × (j < 8)
-      none f = absurd (eqb-false _ _ (not-true _ e) (limit-past i j f))
-
-      go : Dec (i < 8) → Dec (j < 8) → (i < 8) × (j < 8)
-      go (yes p) (yes q) = (p, q)
-      go (yes p) (no q) = none (λ x y. q y)
-      go (no p) d = none (λ x y. p x)
+  linked-small i j e =
+      let none : (i < 8 → j < 8 → ⊥) → (i < 8) × (j < 8) = λ f. absurd (eqb-false _ _ (not-true _ e) (limit-past i j f)) in
+      by-dec (decLt i 8) (λ p. by-dec (decLt j 8) (λ q. (p, q)) (λ q. none (λ x y. q y))) (λ p. none (λ x y. p x))
 
   -- the spreading test is exact
   pub reached-exactly : (everyReached (c .n) (c .limits) ≡ true) ↔ Reached (c .n) (c .limits)
@@ -118,12 +105,7 @@ module _ (c : Config) (h : wellMade c ≡ true) (r : networkRules c ≡ true) wh
   unfolding linked
   back i j e =
       let s = linked-small c h i j e in
-      same (eqb (limit (c .limits) i j) 0) (eqb (limit (c .limits) j i) 0) (twin i j (s .0) (s .1)) e
-    where
-      same : (a b : Bool) → Bool·beq a b ≡ true → not a ≡ true → not b ≡ true
-      same true b p q = absurd (true≢false (sym q))
-      same false true p q = absurd (true≢false (sym p))
-      same false false p q = refl
+      by-test (eqb (limit (c .limits) j i) 0) (λ b. clash (sym (rw (not-true (eqb (limit (c .limits) i j) 0) e, b) at (twin i j (s .0) (s .1))))) (λ b. rw b)
 
   alone : (i : ℕ) → linked (c .limits) i i ≡ true → ⊥
   unfolding linked zeroDiagonal
@@ -133,12 +115,7 @@ module _ (c : Config) (h : wellMade c ≡ true) (r : networkRules c ≡ true) wh
   unfolding linked
   within-n i j e =
       let s = linked-small c h i j e in
-      ltb-true _ _ (last (ltb i (c .n)) (ltb j (c .n)) (eqb (limit (c .limits) i j) 0) (below i j (s .0) (s .1)) e)
-    where
-      last : (a b z : Bool) → ((a && b) || z) ≡ true → not z ≡ true → b ≡ true
-      last true true z p q = refl
-      last true false z p q = absurd (true≢false (sym q ∙ ap not p))
-      last false b z p q = absurd (true≢false (sym q ∙ ap not p))
+      by-test (ltb j (c .n)) (λ b. ltb-true _ _ b) (λ b. clash (sym (rw (not-true (eqb (limit (c .limits) i j) 0) e, b, and-false) at (below i j (s .0) (s .1)))))
 
   pub rules : Rules c
   unfolding neighbours

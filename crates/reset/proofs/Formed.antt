@@ -1,11 +1,11 @@
--- The initial network is well formed, and every step leaves a well-formed state well formed. Assumes nothing.
+-- The initial network is well formed, and every step leaves a well-formed state well formed; such a state is in bounds. Assumes nothing.
 use Prim.Native.Nat.{ℕ, zero, suc, _≤_, _<_}
 use mathlib.Core.Path.{_≡_, refl, _∙_}
 use mathlib.Core.List.{List, [], _∷_}
-use mathlib.Core.Bool.{Bool, true, false, _&&_, _||_}
+use mathlib.Core.Bool.{true, false, _&&_}
 use native.Mathlib.Omega.{arith}
 use native.Mathlib.Decide.{ℕ-discrete}
-use lib.Dec.{leb}
+use lib.Dec.{eqb, leb}
 use lib.ListN.{getD, length, replicate}
 use borrow.Author.Tests.{leb-true, le-leb, ltb-true}
 use Rattle.codec.specs.Every.{every}
@@ -15,14 +15,16 @@ use Rattle.reset.specs.Config.{Config, isStation, neighbours, limitAt, a
 use Rattle.reset.proofs.ConfigLaws.{Rules, rules}
 use Rattle.reset.specs.Clock.{vector}
 use Rattle.reset.specs.State.{Item, message, resetReq, resetDone, Station, State, stationAt, linkAt, sentTo}
-use Rattle.reset.specs.Steps.{phaseBounded, countBounded, linkBounded, inBounds, Step, doEnter, sending, doSend, doReceive, doMark, doStart, step}
+use Rattle.reset.specs.Steps.{inBounds, Step, doEnter, sending, doSend, doReceive, doMark, doStart, step}
 use Rattle.reset.specs.Network.{initialStation, initial}
-use Rattle.reset.specs.WellFormed.{registerFits, ofStation, countsFit, stationFits, itemFits, itemFitsAt, linkFits, shapeFits, stationFitsAt, linkFitsAt, wellFormed, stepFits}
+use Rattle.reset.specs.WellFormed.{registerFits, ofStation, countFits, countsFit, modeFits, phaseFits, stationFits, itemFits, itemFitsAt, linkFits, shapeFits, stationFitsAt, linkFitsAt, wellFormed, stepFits}
 use Rattle.reset.proofs.Views.{zeros-at, station-set, station-set-link}
 use Rattle.reset.proofs.StepLaws.{of-step}
 use Rattle.reset.proofs.Keeps.{neighbour-small}
 use Rattle.reset.proofs.Initial.{initial-station, initial-link}
 use Rattle.reset.proofs.FormedParts.{counts-of, counts-fit, zeros-counts, zeros-sent, none-marks, Fits, fits-of, fits-back, fits-entered, fits-sending, fits-receiving, fits-req, fits-done, Shaped, shaped-of, shape-fits, ItemsFit, Parts, parts-station, parts-link, parts-put, parts-begin, parts-turn}
+use Rattle.reset.proofs.Cases.{by-test, by-dec}
+use Rattle.reset.proofs.Bounds.{Bounds, bounds}
 
 -- ---- the tests of a whole state as facts
 pub record Formed (c : Config) (s : State vector) : Type 0 where
@@ -53,23 +55,6 @@ module _ (c : Config) (s : State vector) where
       (join (every 8 (stationFitsAt c s)) _ (every-of 8 (stationFitsAt c s) (h .station))
       (every-of 8 (λ (i : ℕ). every 8 (linkFitsAt c s i)) (λ i il. every-of 8 (linkFitsAt c s i) (λ j jl. h .link i j il jl)))))
 
-  -- number 9's test
-  record Bounds : Type 0 where
-    phase : (i : ℕ) → i < 8 → stationAt s i .phase ≤ 999999
-    count : (i k : ℕ) → i < 8 → k < 8 → getD (stationAt s i .time) k 0 ≤ c .t
-    link : (i j : ℕ) → i < 8 → j < 8 → length (linkAt s i j) ≤ places c i j
-
-  bounds-of : inBounds c s ≡ true → Bounds
-  unfolding inBounds
-  bounds-of h =
-      let p = both (every 8 (phaseBounded s)) _ h in
-      let q = both (every 8 (λ (i : ℕ). every 8 (countBounded c s i))) _ (p .1) in
-      record {
-        phase = λ i l. leb-true _ _ (every-at 8 (phaseBounded s) i (p .0) l);
-        count = λ i k il kl. leb-true _ _ (every-at 8 (countBounded c s i) k (every-at 8 (λ (i : ℕ). every 8 (countBounded c s i)) i (q .0) il) kl);
-        link = λ i j il jl. leb-true _ _ (every-at 8 (linkBounded c s i) j (every-at 8 (λ (i : ℕ). every 8 (linkBounded c s i)) i (q .1) il) jl);
-      }
-
 -- ---- the items of a link
 module _ (c : Config) (i j : ℕ) (q : List (Item vector)) where
   items-of : linkFits c i j q ≡ true → ItemsFit c q
@@ -81,9 +66,43 @@ module _ (c : Config) (i j : ℕ) (q : List (Item vector)) where
       past (x ∷ q) zero f = f (omega arith)
       past (x ∷ q) (suc k) f = past q k (λ l. f (omega arith))
 
-  link-fits : length q ≤ places c i j → ItemsFit c q → linkFits c i j q ≡ true
+  link-fits : leb (length q) (places c i j) ≡ true → ItemsFit c q → linkFits c i j q ≡ true
   unfolding linkFits
-  link-fits l f = join (leb (length q) (places c i j)) _ (le-leb _ _ l) (every-of (length q) (itemFitsAt c q) (λ k kl. f k))
+  link-fits l f = join (leb (length q) (places c i j)) _ l (every-of (length q) (itemFitsAt c q) (λ k kl. f k))
+
+-- ---- in bounds
+-- a bound of 0 for stations n and above is no more than the bound itself
+of-small : (c : Config) (i b x : ℕ) → x ≤ ofStation c i b → x ≤ b
+of-small c i b x h = by-test (isStation c i) (λ e. rw e at h) (λ e. let z : x ≤ 0 = rw e at h in omega arith)
+
+-- every count of eight that fit is at most the bound
+pub counts-small : (c : Config) (b : ℕ) (v : List ℕ) → countsFit c b v ≡ true → (k : ℕ) → k < 8 → getD v k 0 ≤ b
+unfolding countsFit
+counts-small c b v h k l =
+    let p = both (eqb (length v) 8) _ h in
+    of-small c k b (getD v k 0) (leb-true _ _ (every-at 8 (countFits c b v) k (p .1) l))
+
+module _ (c : Config) (i : ℕ) (x : Station vector) (h : stationFits c i x ≡ true) where
+  pub station-counts : (k : ℕ) → k < 8 → getD (x .time) k 0 ≤ c .t
+  unfolding stationFits
+  station-counts k l = of-small c i (c .t) _ (counts-small c (ofStation c i (c .t)) (x .time) (both (countsFit c (ofStation c i (c .t)) (x .time)) _ h .0) k l)
+
+  pub station-phase : x .phase ≤ 999999
+  unfolding stationFits
+  station-phase =
+      let p = both (countsFit c (ofStation c i (c .t)) (x .time)) _ h in
+      let q = both (modeFits c i x) _ (p .1) in
+      of-small c i 999999 (x .phase) (leb-true _ _ (both (phaseFits c i x) _ (q .1) .0))
+
+pub formed-bounds : (c : Config) (s : State vector) → wellFormed c s ≡ true → Bounds c s
+unfolding linkFits
+formed-bounds c s h =
+    let f = formed-of c s h in
+    record {
+      phases = λ i l. le-leb _ _ (station-phase c i (stationAt s i) (f .station i l));
+      counts = λ i k l m. le-leb _ _ (station-counts c i (stationAt s i) (f .station i l) k m);
+      links = λ i j l m. both (leb (length (linkAt s i j)) (places c i j)) _ (f .link i j l m) .0;
+    }
 
 -- ---- a step of station i, from a well-formed state
 module _ (c : Config) (s : State vector) (h : Formed c s) where
@@ -107,19 +126,15 @@ module _ (c : Config) (s : State vector) (h : Formed c s) where
     -- the state after it is in bounds
     closed : (s′ : State vector) → Parts c i s′ → inBounds c s′ ≡ true → Formed c s′
     closed s′ p b =
+        let z = bounds c s′ b in
         record {
           accepted = h .accepted;
           shape = shape-fits s′ (p .shape);
-          station = λ k l. at k l (ℕ-discrete k i);
-          link = λ a d al dl. link-fits c a d (linkAt s′ a d) (bounds-of c s′ b .link a d al dl) (p .items a d al dl);
+          station = λ k l. by-dec (ℕ-discrete k i)
+              (λ e. rw e (fits-back c i (stationAt s′ i) (c .t) (rw si) (rw si) (rw si (z .phases i below)) (λ d dl. leb-true _ _ (z .counts i d below dl)) (p .here)))
+              (λ n. p .others k l n);
+          link = λ a d al dl. link-fits c a d (linkAt s′ a d) (z .links a d al dl) (p .items a d al dl);
         }
-      where
-        at : (k : ℕ) → k < 8 → Dec (k ≡ i) → stationFits c k (stationAt s′ k) ≡ true
-        at k l (yes e) =
-            let z = bounds-of c s′ b in
-            rw e
-            (fits-back c i (stationAt s′ i) (c .t) (rw si) (rw si) (rw si (le-leb _ _ (z .phase i below))) (λ d dl. z .count i d below dl) (p .here))
-        at k l (no n) = p .others k l n
 
     formed-enter : (g : ℕ) → stationAt s i .own < allowanceAt c (stationAt s i .phase) i → inBounds c (doEnter i g s .after) ≡ true → Formed c (doEnter i g s .after)
     formed-enter g l b = closed _ (parts-station c i below s _ (fits-entered c i _ (parts .here) below si l) parts) b
@@ -135,7 +150,7 @@ module _ (c : Config) (s : State vector) (h : Formed c s) where
           let x = sending i j (stationAt s i) in
           let f = fits-sending c i _ (parts .here) below si j near l in
           let e : stationAt (doSend i j g s .after) i ≡ x = station-set-link _ i j _ i ∙ station-set s i x in
-          let u : (k : ℕ) → k < 8 → getD (x .time) k 0 ≤ c .t = λ k kl. rw e at (bounds-of c _ b .count i k below kl) in
+          let u : (k : ℕ) → k < 8 → getD (x .time) k 0 ≤ c .t = λ k kl. leb-true _ _ (rw e at (bounds c _ b .counts i k below kl)) in
           let m : itemFits c (message (x .time) g) ≡ true = join (countsFit c (c .t) (x .time)) _ (counts-fit c (x .time) (c .t) (f .counts) u) r in
           closed _ (parts-put c i below _ m _ j near (parts-station c i below s x f parts)) b
 
@@ -204,13 +219,9 @@ module _ (c : Config) where
         shape = shape-fits _ initial-shape;
         station = λ i l.
             rw (initial-station vector c i l)
-            (fits-back c i (initialStation vector c i) _ refl (or-true (isStation c i)) (le-leb 0 (ofStation c i 999999) (omega arith)) (λ k kl. rw zeros-at (omega arith)) (initial-fits i));
-        link = λ i j il jl. rw initial-link (link-fits c i j [] (omega arith) (λ k. refl));
+            (fits-back c i (initialStation vector c i) _ refl (by-test (isStation c i) (λ e. rw e) (λ e. rw e)) (le-leb 0 (ofStation c i 999999) (omega arith)) (λ k kl. rw zeros-at (omega arith)) (initial-fits i));
+        link = λ i j il jl. rw initial-link (link-fits c i j [] (le-leb 0 (places c i j) (omega arith)) (λ k. refl));
       }
-    where
-      or-true : (a : Bool) → (a || true) ≡ true
-      or-true true = refl
-      or-true false = refl
 
 -- ---- the theorems
 pub initial-well-formed : (c : Config) → wellMade c ≡ true → networkRules c ≡ true → wellFormed c (initial vector c) ≡ true

@@ -4,7 +4,7 @@ use Prim.Native.Nat.{ℕ, zero, suc, _≤_, _<_}
 use mathlib.Core.Path.{_≡_, refl, sym, ap, _∙_}
 use mathlib.Core.Logic.{_≢_}
 use mathlib.Core.List.{List, [], _∷_, _++_}
-use mathlib.Core.Bool.{Bool, true, false, not, cond, _&&_, _||_, true≢false}
+use mathlib.Core.Bool.{Bool, true, false, not, _&&_, _||_, true≢false}
 use native.Mathlib.Omega.{arith}
 use native.Mathlib.Decide.{ℕ-discrete}
 use lib.Dec.{eqb, leb}
@@ -22,10 +22,11 @@ use Rattle.reset.specs.State.{Item, resetReq, resetDone, Station, State,
 use Rattle.reset.specs.Steps.{begun, renewed, woken, beginReset, renew, wake, Rule, ruleA, ruleB, ruleC, noRule, ruleOf, apply, turnOnce, turn, entered, sending, receiving, withReq, withDone}
 use Rattle.reset.specs.WellFormed.{ofStation, countFits, countsFit, modeFits, phaseFits, ownFits, sentFitsTo, sentFits, marksFitFrom, marksFit, stationFits, itemFits, rowLong, shapeFits}
 use Rattle.reset.proofs.Views.{zeros-at, none-at, station-set, station-set-other, link-set-station, station-set-link, link-set, link-set-row, link-set-col}
+use Rattle.reset.proofs.Cases.{by-test, by-dec, clash}
 
 -- ---- tests
 or-second : (a b : Bool) → (a || b) ≡ true → a ≡ false → b ≡ true
-or-second true b h e = absurd (true≢false e)
+or-second true b h e = clash e
 or-second false b h e = h
 
 or-by : (a b : Bool) → (a ≡ false → b ≡ true) → (a || b) ≡ true
@@ -51,11 +52,8 @@ module _ (c : Config) (v : List ℕ) where
   pub counts-fit : (b : ℕ) → Counts c v → ((k : ℕ) → k < 8 → getD v k 0 ≤ b) → countsFit c b v ≡ true
   unfolding countsFit
   counts-fit b h u =
-      join (eqb (length v) 8) _ (eq-eqb _ _ (h .eight)) (every-of 8 (countFits c b v) (λ k l. go k l (isStation c k) refl))
-    where
-      go : (k : ℕ) → k < 8 → (t : Bool) → isStation c k ≡ t → leb (getD v k 0) (ofStation c k b) ≡ true
-      go k l true e = rw e (le-leb _ _ (u k l))
-      go k l false e = rw (e, h .none-above k l e)
+      join (eqb (length v) 8) _ (eq-eqb _ _ (h .eight))
+      (every-of 8 (countFits c b v) (λ k l. by-test (isStation c k) (λ e. rw e (le-leb _ _ (u k l))) (λ e. rw (e, h .none-above k l e))))
 
 pub zeros-counts : (c : Config) → Counts c zeros
 unfolding zeros
@@ -88,11 +86,10 @@ zeros-sent c i p = record { eight = refl; within = λ j l. rw zeros-at (omega ar
 -- one more to j
 sent-more : (c : Config) (i p : ℕ) (l : List ℕ) (j : ℕ) → j < 8 → getD l j 0 < limitAt c p i j → Sent c i p l → Sent c i p (put 0 l j (suc (getD l j 0)))
 sent-more c i p l j jl m h =
-    record { eight = put-keeps 0 l j _ (omega (arith, h .eight)) ∙ h .eight; within = λ k kl. at k kl (ℕ-discrete k j) }
-  where
-    at : (k : ℕ) → k < 8 → Dec (k ≡ j) → getD (put 0 l j (suc (getD l j 0))) k 0 ≤ limitAt c p i k
-    at k kl (yes e) = rw (e, put-same) m
-    at k kl (no e) = rw (put-other 0 l j k (suc (getD l j 0)) e) (h .within k kl)
+    record {
+      eight = put-keeps 0 l j _ (omega (arith, h .eight)) ∙ h .eight;
+      within = λ k kl. by-dec (ℕ-discrete k j) (λ e. rw (e, put-same) m) (λ e. rw (put-other 0 l j k (suc (getD l j 0)) e) (h .within k kl));
+    }
 
 -- ---- marks: eight, none for a non-neighbour
 pub record Marks (c : Config) (i : ℕ) (l : List Bool) : Type 0 where
@@ -238,12 +235,10 @@ shaped-link s i j q il jl h =
     record {
       stations8 = h .stations8;
       links8 = put-keeps [] (s .links) i _ (omega (arith, h .links8)) ∙ h .links8;
-      row8 = λ a al. at a al (ℕ-discrete a i);
+      row8 = λ a al. by-dec (ℕ-discrete a i)
+          (λ p. rw (p, put-same) (put-keeps [] (getD (s .links) i []) j q (omega (arith, h .row8 i il)) ∙ h .row8 i il))
+          (λ p. rw (put-other [] (s .links) i a (put [] (getD (s .links) i []) j q) p) (h .row8 a al));
     }
-  where
-    at : (a : ℕ) → a < 8 → Dec (a ≡ i) → length (getD (put [] (s .links) i (put [] (getD (s .links) i []) j q)) a []) ≡ 8
-    at a al (yes p) = rw (p, put-same) (put-keeps [] (getD (s .links) i []) j q (omega (arith, h .row8 i il)) ∙ h .row8 i il)
-    at a al (no p) = rw (put-other [] (s .links) i a (put [] (getD (s .links) i []) j q) p) (h .row8 a al)
 
 -- ---- the items of a link
 abbrev pub ItemsFit : Config → List (Item vector) → Type 0
@@ -278,13 +273,10 @@ module _ (c : Config) (i : ℕ) (il : i < 8) where
         shape = shaped-link s a b q al bl (h .shape);
         here = rw station-set-link (h .here);
         others = λ k l n. rw station-set-link (h .others k l n);
-        items = λ a′ b′ al′ bl′. at a′ b′ al′ bl′ (ℕ-discrete a′ a) (ℕ-discrete b′ b);
+        items = λ a′ b′ al′ bl′. by-dec (ℕ-discrete a′ a)
+            (λ p. by-dec (ℕ-discrete b′ b) (λ r. rw (p, r, link-set) f) (λ r. rw (p, link-set-col s a b q b′ r) (h .items a b′ al bl′)))
+            (λ p. rw (link-set-row s a b q a′ b′ p) (h .items a′ b′ al′ bl′));
       }
-    where
-      at : (a′ b′ : ℕ) → a′ < 8 → b′ < 8 → Dec (a′ ≡ a) → Dec (b′ ≡ b) → ItemsFit c (linkAt (setLink s a b q) a′ b′)
-      at a′ b′ al′ bl′ (yes p) (yes r) = rw (p, r, link-set) f
-      at a′ b′ al′ bl′ (yes p) (no r) = rw (p, link-set-col s a b q b′ r) (h .items a b′ al bl′)
-      at a′ b′ al′ bl′ (no p) d = rw (link-set-row s a b q a′ b′ p) (h .items a′ b′ al′ bl′)
 
   module _ (y : Item vector) (f : itemFits c y ≡ true) where
     pub parts-put : (s : State vector) (b : ℕ) → b < 8 → Parts c i s → Parts c i (putOn s i b y)
@@ -292,11 +284,7 @@ module _ (c : Config) (i : ℕ) (il : i < 8) where
 
     parts-linked : (s : State vector) (b : ℕ) → b < 8 → Parts c i s → Parts c i (putLinked c s i b y)
     unfolding putLinked
-    parts-linked s b bl h = go (neighbours c i b)
-      where
-        go : (t : Bool) → Parts c i (cond t (putOn s i b y) s)
-        go true = parts-put s b bl h
-        go false = h
+    parts-linked s b bl h = by-test (neighbours c i b) (λ e. rw e (parts-put s b bl h)) (λ e. rw e h)
 
     parts-first : (m : ℕ) → m ≤ 8 → (s : State vector) → Parts c i s → Parts c i (putFirst m c s i y)
     unfolding putFirst

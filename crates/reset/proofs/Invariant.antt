@@ -1,7 +1,7 @@
 -- The invariant of the network, and the two lemmas by which every change keeps it: a station puts items on its links out, or takes the first item of a link
 -- in. Assumes nothing.
 use Prim.Native.Nat.{ℕ, suc, _≤_}
-use mathlib.Core.Path.{_≡_, refl, sym, ap, _∙_}
+use mathlib.Core.Path.{_≡_, refl, sym, _∙_}
 use mathlib.Core.Logic.{_≢_}
 use mathlib.Core.List.{List, [], _∷_, _++_, append-nil}
 use mathlib.Core.Bool.{true}
@@ -14,6 +14,7 @@ use Rattle.reset.specs.State.{normal, Item, Station, State, stationAt, l
 use Rattle.reset.proofs.Progress.{target, asked, settled}
 use Rattle.reset.proofs.Changes.{Tagged, tags, waiting}
 use Rattle.reset.proofs.Flow.{Flow, flow-reqs, flow-dones, flow-up, flow-append, tags-append}
+use Rattle.reset.proofs.Cases.{by-dec}
 
 -- The items q of the link from station i, whose record is x, to a station with record y: from what y has taken to what x has put.
 abbrev pub Carries : {K : Clock} → ℕ → Station K → List (Item K) → Station K → Type 0
@@ -56,35 +57,25 @@ pub record Puts {K : Clock} (c : Config) (i : ℕ) (s s′ : State K) (out : ℕ
   pub seen′ : (j : ℕ) → neighbours c i j ≡ true → stationAt s′ i .mode ≡ normal → doneSeen (stationAt s′ i) j ≡ true
 
 module _ {K : Clock} (c : Config) (u : Rules c) (i : ℕ) (s s′ : State K) (out : ℕ → List (Item K)) (v : Invariant c s) (m : Puts c i s s′ out) where
-  puts-in : (a : ℕ) → a ≢ i → neighbours c a i ≡ true → Carries a (stationAt s′ a) (linkAt s′ a i) (stationAt s′ i)
-  puts-in a n h =
-      let ia = u .both-ways a i h in
-      rw (m .others a n, m .kept a i n, m .head-reqs a ia, m .head-dones a ia)
-      (flow-up _ _ _ _ (linkAt s a i) _ _ (m .up) (v .flow a i h))
-
-  puts-out : (b : ℕ) → b ≢ i → neighbours c i b ≡ true → Carries i (stationAt s′ i) (linkAt s′ i b) (stationAt s′ b)
-  puts-out b n h =
-      rw (m .others b n, m .onto b h)
-      (flow-append _ _ _ (linkAt s i b) (out b) _ _ _ _ (v .flow i b h) (m .tail b h))
-
-  puts-far : (a b : ℕ) → a ≢ i → b ≢ i → neighbours c a b ≡ true → Carries a (stationAt s′ a) (linkAt s′ a b) (stationAt s′ b)
-  puts-far a b n k h = rw (m .others a n, m .others b k, m .kept a b n) (v .flow a b h)
-
-  puts-flow : (a b : ℕ) → Dec (a ≡ i) → Dec (b ≡ i) → neighbours c a b ≡ true → Carries a (stationAt s′ a) (linkAt s′ a b) (stationAt s′ b)
-  puts-flow a b (yes p) (yes q) h = absurd (u .loopless i (rw (p, q) at h))
-  puts-flow a b (yes p) (no q) h = rw p (puts-out b q (rw p at h))
-  puts-flow a b (no p) (yes q) h = rw q (puts-in a p (rw q at h))
-  puts-flow a b (no p) (no q) h = puts-far a b p q h
-
-  puts-seen : (a b : ℕ) → Dec (a ≡ i) → neighbours c a b ≡ true → stationAt s′ a .mode ≡ normal → doneSeen (stationAt s′ a) b ≡ true
-  puts-seen a b (yes p) h k = rw p (m .seen′ b (rw p at h) (rw p at k))
-  puts-seen a b (no p) h k = rw (m .others a p) (v .seen a b h (rw (m .others a p) at k))
+  puts-flow : (a b : ℕ) → neighbours c a b ≡ true → Carries a (stationAt s′ a) (linkAt s′ a b) (stationAt s′ b)
+  puts-flow a b h =
+      by-dec (ℕ-discrete a i)
+      (λ p. by-dec (ℕ-discrete b i) (λ q. absurd (u .loopless i (rw (p, q) at h)))
+      (λ q. let k : neighbours c i b ≡ true = rw p at h in
+      rw (p, m .others b q, m .onto b k) (flow-append _ _ _ (linkAt s i b) (out b) _ _ _ _ (v .flow i b k) (m .tail b k))))
+      (λ p. by-dec (ℕ-discrete b i)
+      (λ q. let k : neighbours c a i ≡ true = rw q at h in
+      let ia = u .both-ways a i k in
+      rw (q, m .others a p, m .kept a i p, m .head-reqs a ia, m .head-dones a ia) (flow-up _ _ _ _ (linkAt s a i) _ _ (m .up) (v .flow a i k)))
+      (λ q. rw (m .others a p, m .others b q, m .kept a b p) (v .flow a b h)))
 
   pub puts-keeps : Invariant c s′
   puts-keeps =
       record {
-        flow = λ a b h. puts-flow a b (ℕ-discrete a i) (ℕ-discrete b i) h;
-        seen = λ a b h k. puts-seen a b (ℕ-discrete a i) h k;
+        flow = puts-flow;
+        seen = λ a b h k. by-dec (ℕ-discrete a i)
+            (λ p. rw p (m .seen′ b (rw p at h) (rw p at k)))
+            (λ p. rw (m .others a p) (v .seen a b h (rw (m .others a p) at k)));
       }
 
   -- the messages put, behind those that wait; no other link's messages move
@@ -98,15 +89,13 @@ module _ {K : Clock} (c : Config) (u : Rules c) (i : ℕ) (s s′ : State K) (ou
   puts-still a b h n (no p) = rw (m .kept a b n, m .others b p)
 
   pub puts-quiet : ((b : ℕ) → tags (target (stationAt s i)) (out b) ≡ []) → Kept c s s′
-  puts-quiet z = record { inv = puts-keeps; unmoved = λ a b h. go a b h (ℕ-discrete a i) }
-    where
-      go : (a b : ℕ) → neighbours c a b ≡ true → Dec (a ≡ i) → waiting s′ a b ≡ waiting s a b
-      go a b h (yes p) =
-          rw p
-          (puts-waiting b (rw p at h) (λ e. u .loopless i (rw (p, e) at h))
-          ∙ ap (λ (l : List (Tagged K)). waiting s i b ++ l) (z b)
-          ∙ append-nil (waiting s i b))
-      go a b h (no p) = puts-still a b h p (ℕ-discrete b i)
+  puts-quiet z =
+      record {
+        inv = puts-keeps;
+        unmoved = λ a b h. by-dec (ℕ-discrete a i)
+            (λ p. rw p (puts-waiting b (rw p at h) (λ e. u .loopless i (rw (p, e) at h)) ∙ rw (z b) (append-nil (waiting s i b))))
+            (λ p. puts-still a b h p (ℕ-discrete b i));
+      }
 
 -- ---- the receiving end: station i takes the first item x off its link from j, and of its record what the links read changes only at j
 pub record Takes {K : Clock} (c : Config) (i j : ℕ) (s s′ : State K) (x : Item K) (q : List (Item K)) (taken : List (Tagged K)) : Type 0 where
@@ -132,45 +121,27 @@ module _ {K : Clock} (c : Config) (u : Rules c) (i j : ℕ) (ij : neighbours c i
   apart : j ≢ i
   apart e = u .loopless i (rw e at ij)
 
-  takes-here : Carries j (stationAt s′ j) (linkAt s′ j i) (stationAt s′ i)
-  takes-here =
-      rw (m .left, m .others j apart, m .phase-same)
-      (rw (m .phase-same) at (m .moved (rw (m .held) at (v .flow j i ji))))
+  takes-link : (a b : ℕ) → b ≢ i → linkAt s′ a b ≡ linkAt s a b
+  takes-link a b n = by-dec (ℕ-discrete a j) (λ p. rw p (m .cols b n)) (λ p. m .rows a b p)
 
-  takes-in : (a : ℕ) → a ≢ i → a ≢ j → neighbours c a i ≡ true → Carries a (stationAt s′ a) (linkAt s′ a i) (stationAt s′ i)
-  takes-in a n k h =
-      rw (m .others a n, m .rows a i k, m .req-other a k, m .done-other a k, m .mode-same, m .phase-same) (v .flow a i h)
-
-  takes-out : (b : ℕ) → b ≢ i → neighbours c i b ≡ true → Carries i (stationAt s′ i) (linkAt s′ i b) (stationAt s′ b)
-  takes-out b n h =
-      rw (m .others b n, m .rows i b (λ e. apart (sym e)), m .mode-same, m .phase-same) (v .flow i b h)
-
-  takes-link : (a b : ℕ) → b ≢ i → Dec (a ≡ j) → linkAt s′ a b ≡ linkAt s a b
-  takes-link a b n (yes p) = rw p (m .cols b n)
-  takes-link a b n (no p) = m .rows a b p
-
-  takes-far : (a b : ℕ) → a ≢ i → b ≢ i → neighbours c a b ≡ true → Carries a (stationAt s′ a) (linkAt s′ a b) (stationAt s′ b)
-  takes-far a b n k h = rw (m .others a n, m .others b k, takes-link a b k (ℕ-discrete a j)) (v .flow a b h)
-
-  takes-at-i : (a : ℕ) → Dec (a ≡ j) → a ≢ i → neighbours c a i ≡ true → Carries a (stationAt s′ a) (linkAt s′ a i) (stationAt s′ i)
-  takes-at-i a (yes p) n h = rw p takes-here
-  takes-at-i a (no p) n h = takes-in a n p h
-
-  takes-flow : (a b : ℕ) → Dec (a ≡ i) → Dec (b ≡ i) → neighbours c a b ≡ true → Carries a (stationAt s′ a) (linkAt s′ a b) (stationAt s′ b)
-  takes-flow a b (yes p) (yes r) h = absurd (u .loopless i (rw (p, r) at h))
-  takes-flow a b (yes p) (no r) h = rw p (takes-out b r (rw p at h))
-  takes-flow a b (no p) (yes r) h = rw r (takes-at-i a (ℕ-discrete a j) p (rw r at h))
-  takes-flow a b (no p) (no r) h = takes-far a b p r h
-
-  takes-seen : (a b : ℕ) → Dec (a ≡ i) → neighbours c a b ≡ true → stationAt s′ a .mode ≡ normal → doneSeen (stationAt s′ a) b ≡ true
-  takes-seen a b (yes p) h k = rw p (m .done-more b (v .seen i b (rw p at h) (sym (m .mode-same) ∙ (rw p at k))))
-  takes-seen a b (no p) h k = rw (m .others a p) (v .seen a b h (rw (m .others a p) at k))
+  takes-flow : (a b : ℕ) → neighbours c a b ≡ true → Carries a (stationAt s′ a) (linkAt s′ a b) (stationAt s′ b)
+  takes-flow a b h =
+      by-dec (ℕ-discrete b i)
+      (λ r. by-dec (ℕ-discrete a i) (λ p. absurd (u .loopless i (rw (p, r) at h)))
+      (λ p. by-dec (ℕ-discrete a j)
+      (λ e. rw (r, e, m .left, m .others j apart, m .phase-same) (rw (m .phase-same) at (m .moved (rw (m .held) at (v .flow j i ji)))))
+      (λ e. rw (r, m .others a p, m .rows a i e, m .req-other a e, m .done-other a e, m .mode-same, m .phase-same) (v .flow a i (rw r at h)))))
+      (λ r. by-dec (ℕ-discrete a i)
+      (λ p. rw (p, m .others b r, m .rows i b (λ e. apart (sym e)), m .mode-same, m .phase-same) (v .flow i b (rw p at h)))
+      (λ p. rw (m .others a p, m .others b r, takes-link a b r) (v .flow a b h)))
 
   pub takes-keeps : Invariant c s′
   takes-keeps =
       record {
-        flow = λ a b h. takes-flow a b (ℕ-discrete a i) (ℕ-discrete b i) h;
-        seen = λ a b h k. takes-seen a b (ℕ-discrete a i) h k;
+        flow = takes-flow;
+        seen = λ a b h k. by-dec (ℕ-discrete a i)
+            (λ p. rw p (m .done-more b (v .seen i b (rw p at h) (sym (m .mode-same) ∙ (rw p at k)))))
+            (λ p. rw (m .others a p) (v .seen a b h (rw (m .others a p) at k)));
       }
 
   -- the message taken was the first; no other link's messages move
@@ -179,4 +150,4 @@ module _ {K : Clock} (c : Config) (u : Rules c) (i j : ℕ) (ij : neighbours c i
 
   pub takes-still : (a b : ℕ) → neighbours c a b ≡ true → Dec (b ≡ i) → (a ≡ j → b ≡ i → ⊥) → waiting s′ a b ≡ waiting s a b
   takes-still a b h (yes p) n = rw (p, m .rows a i (λ e. n e p), m .req-other a (λ e. n e p), m .phase-same)
-  takes-still a b h (no p) n = rw (m .others b p, takes-link a b p (ℕ-discrete a j))
+  takes-still a b h (no p) n = rw (m .others b p, takes-link a b p)

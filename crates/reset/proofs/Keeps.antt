@@ -15,6 +15,7 @@ use Rattle.reset.proofs.TurnLaws.{Tested, rule-tested}
 use Rattle.reset.proofs.Progress.{muted, target, asked, settled}
 use Rattle.reset.proofs.Flow.{Flow}
 use Rattle.reset.proofs.Invariant.{Invariant, Kept, kept-still, kept-then, Puts, puts-quiet}
+use Rattle.reset.proofs.Cases.{clash}
 
 -- every neighbour is one of the eight
 pub neighbour-small : (c : Config) → Rules c → (i j : ℕ) → neighbours c i j ≡ true → j < 8
@@ -52,7 +53,7 @@ module _ {K : Clock} (c : Config) (u : Rules c) (i : ℕ) (s : State K) where
       (puts-all (begun (stationAt s i)) resetReq (omega arith) (λ j k. refl)
       (λ j k. rw (none-at, h, v .seen i j k h) (omega arith))
       (λ b. rw h (omega arith))
-      (λ j k e. let z : _≡_ {A = ℕ} 0 1 = cc in absurd (omega arith))) (λ b. refl)
+      (λ j k e. clash (cc))) (λ b. refl)
 
   -- rule a
   renew-keeps : stationAt s i .mode ≡ mute → everyNeighbour c i (reqSeen (stationAt s i)) ≡ true → Invariant c s → Kept c s (renew c i s)
@@ -63,7 +64,7 @@ module _ {K : Clock} (c : Config) (u : Rules c) (i : ℕ) (s : State K) where
       (λ j k. rw (none-at, every-neighbour-at c u i (reqSeen (stationAt s i)) a j k) (omega arith))
       (λ j k. rw h (omega arith))
       (λ b. rw h (omega arith))
-      (λ j k e. let z : _≡_ {A = ℕ} 0 1 = cc in absurd (omega arith))) (λ b. refl)
+      (λ j k e. clash (cc))) (λ b. refl)
 
   -- a new record that the links do not read otherwise, and nothing put
   pub puts-own : (x : Station K)

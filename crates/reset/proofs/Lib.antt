@@ -13,5 +13,6 @@ pub mod Messages
 pub mod Summary
 pub mod Initial
 pub mod Coherent
+pub mod Bounds
 pub mod FormedParts
 pub mod Formed

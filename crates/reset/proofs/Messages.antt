@@ -7,9 +7,7 @@ use mathlib.Core.Bool.{Bool, true, false, cond}
 use native.Mathlib.Omega.{arith}
 use native.Mathlib.Decide.{ℕ-discrete}
 use lib.Dec.{eqb}
-use lib.ListN.{getD}
 use borrow.Author.Tests.{eq-eqb, ne-eqb, eqb-true, eqb-false}
-use Rattle.codec.specs.Put.{put}
 use Rattle.codec.proofs.PutLaws.{put-same, put-other}
 use Rattle.reset.specs.Config.{Config, neighbours}
 use Rattle.reset.proofs.ConfigLaws.{Rules}
@@ -22,6 +20,7 @@ use Rattle.reset.proofs.Changes.{Tagged, tags, waiting, sentOn, firstWi
 use Rattle.reset.proofs.Flow.{Flow, flow-reqs, flow-dones}
 use Rattle.reset.proofs.Invariant.{Carries, Invariant, target-near, phase-near, Kept, Puts, puts-keeps, puts-waiting, puts-still, puts-quiet, Takes, takes-keeps, takes-waiting, takes-still}
 use Rattle.reset.proofs.Keeps.{puts-own}
+use Rattle.reset.proofs.Cases.{by-dec, clash}
 
 -- ---- enter
 pub enter-keeps : {K : Clock} (c : Config) → Rules c → (s : State K) → Invariant c s → (i : ℕ) → Kept c s (setStation s i (entered i (stationAt s i)))
@@ -31,12 +30,12 @@ enter-keeps c u s v i =
 -- ---- send
 may-send-unmuted : (m : Mode) (d : Bool) → maySend m d ≡ true → muted m ≡ 0
 may-send-unmuted normal d h = refl
-may-send-unmuted mute d h = let z : _≡_ {A = ℕ} 0 1 = cc in absurd (omega arith)
+may-send-unmuted mute d h = clash (cc)
 may-send-unmuted standBy d h = refl
 
 may-send-seen : (m : Mode) (d : Bool) → maySend m d ≡ true → (m ≡ normal → d ≡ true) → d ≡ true
 may-send-seen normal d h k = k refl
-may-send-seen mute d h k = let z : _≡_ {A = ℕ} 0 1 = cc in absurd (omega arith)
+may-send-seen mute d h k = clash (cc)
 may-send-seen standBy d h k = h
 
 module _ {K : Clock} (c : Config) (u : Rules c) (s : State K) (v : Invariant c s) (i j g : ℕ) (ij : neighbours c i j ≡ true)
@@ -84,14 +83,11 @@ module _ {K : Clock} (c : Config) (u : Rules c) (s : State K) (v : Invariant c s
       ap {B = List (Tagged K)} (λ r. record { phase = r; load = w; register = g } ∷ []) e
   tag-send false = refl
 
-  send-log-at : (a b : ℕ) → neighbours c a b ≡ true → Dec (a ≡ i) → waiting s a b ++ sentOn s a b (send i j g) ≡ waiting (doSend i j g s .after) a b
-  send-log-at a b h (yes p) =
-      rw (p, eq-eqb i i refl, tag-send (eqb j b)) (sym (puts-waiting c u i s _ out v puts-send b (rw p at h) (λ e. u .loopless i (rw (p, e) at h))))
-  send-log-at a b h (no p) =
-      rw (ne-eqb i a (λ e. p (sym e))) (append-nil (waiting s a b) ∙ sym (puts-still c u i s _ out v puts-send a b h p (ℕ-discrete b i)))
-
   pub send-log : (a b : ℕ) → neighbours c a b ≡ true → waiting s a b ++ sentOn s a b (send i j g) ≡ waiting (doSend i j g s .after) a b
-  send-log a b h = send-log-at a b h (ℕ-discrete a i)
+  send-log a b h =
+      by-dec (ℕ-discrete a i)
+      (λ p. rw (p, eq-eqb i i refl, tag-send (eqb j b)) (sym (puts-waiting c u i s _ out v puts-send b (rw p at h) (λ e. u .loopless i (rw (p, e) at h)))))
+      (λ p. rw (ne-eqb i a (λ e. p (sym e))) (append-nil (waiting s a b) ∙ sym (puts-still c u i s _ out v puts-send a b h p (ℕ-discrete b i))))
 
 -- ---- recv
 module _ {K : Clock} (c : Config) (u : Rules c) (s : State K) (v : Invariant c s) (i j : ℕ) (ij : neighbours c i j ≡ true) (q : List (Item K)) where
@@ -146,14 +142,10 @@ module _ {K : Clock} (c : Config) (u : Rules c) (s : State K) (v : Invariant c s
           omega arith
 
   -- reset_done: it was not seen before
-  seen-more : (l : List Bool) (k : ℕ) → Dec (k ≡ j) → getD l k false ≡ true → getD (put false l j true) k false ≡ true
-  seen-more l k (yes p) d = rw (p, put-same)
-  seen-more l k (no p) d = put-other false l j k true p ∙ d
-
   takes-done : linkAt s j i ≡ resetDone ∷ q → Takes c i j s (setLink (setStation s i (withDone j (stationAt s i))) j i q) resetDone q []
   takes-done held =
       taken-by (withDone j (stationAt s i)) resetDone [] held refl refl (λ k n. refl) (λ k n. put-other false (stationAt s i .dones) j k true n)
-      (λ k d. seen-more (stationAt s i .dones) k (ℕ-discrete k j) d)
+      (λ k d. by-dec (ℕ-discrete k j) (λ p. rw (p, put-same)) (λ p. put-other false (stationAt s i .dones) j k true p ∙ d))
       (λ h. refl)
       (λ h. rw (put-same, ← moved h) (h .1))
     where
@@ -167,31 +159,30 @@ module _ {K : Clock} (c : Config) (u : Rules c) (s : State K) (v : Invariant c s
   pub receive-keeps : (w : K .Load) (g : ℕ) → linkAt s j i ≡ message w g ∷ q → Invariant c (doReceive i j w g q s .after)
   receive-keeps w g held = takes-keeps c u i j ij s _ (message w g) q _ v (takes-message w g held)
 
-  receive-log-at : (w : K .Load) (g : ℕ) → linkAt s j i ≡ message w g ∷ q → (a b : ℕ) → neighbours c a b ≡ true → Dec (a ≡ j) → Dec (b ≡ i)
-      → waiting s a b ++ [] ≡ gotOn s a b (recv i j) ++ waiting (doReceive i j w g q s .after) a b
-  receive-log-at w g held a b h (yes p) (yes r) =
-      rw (p, r, eq-eqb i i refl, eq-eqb j j refl)
-      (append-nil (waiting s j i) ∙ takes-waiting c u i j ij s _ (message w g) q _ v (takes-message w g held)
-      ∙ ap (λ (z : List (Item K)). firstWith (stationAt s i .phase) z ++ waiting (doReceive i j w g q s .after) j i) (sym held))
-  receive-log-at w g held a b h (yes p) (no r) =
-      rw (p, eq-eqb j j refl, ne-eqb i b (λ e. r (sym e)))
-      (append-nil (waiting s j b) ∙ sym (takes-still c u i j ij s _ (message w g) q _ v (takes-message w g held) j b (rw p at h) (no r) (λ e f. r f)))
-  receive-log-at w g held a b h (no p) d =
-      rw (ne-eqb j a (λ e. p (sym e)))
-      (append-nil (waiting s a b) ∙ sym (takes-still c u i j ij s _ (message w g) q _ v (takes-message w g held) a b h d (λ e f. p e)))
-
   pub receive-log : (w : K .Load) (g : ℕ) → linkAt s j i ≡ message w g ∷ q → (a b : ℕ) → neighbours c a b ≡ true
       → waiting s a b ++ [] ≡ gotOn s a b (recv i j) ++ waiting (doReceive i j w g q s .after) a b
-  receive-log w g held a b h = receive-log-at w g held a b h (ℕ-discrete a j) (ℕ-discrete b i)
+  receive-log w g held a b h =
+      let m = takes-message w g held in
+      by-dec (ℕ-discrete a j)
+      (λ p. by-dec (ℕ-discrete b i)
+      (λ r. rw (p, r, eq-eqb i i refl, eq-eqb j j refl)
+      (append-nil (waiting s j i) ∙ takes-waiting c u i j ij s _ (message w g) q _ v m
+      ∙ ap (λ (z : List (Item K)). firstWith (stationAt s i .phase) z ++ waiting (doReceive i j w g q s .after) j i) (sym held)))
+      (λ r. rw (p, eq-eqb j j refl, ne-eqb i b (λ e. r (sym e)))
+      (append-nil (waiting s j b) ∙ sym (takes-still c u i j ij s _ (message w g) q _ v m j b (rw p at h) (no r) (λ e f. r f)))))
+      (λ p. rw (ne-eqb j a (λ e. p (sym e)))
+      (append-nil (waiting s a b) ∙ sym (takes-still c u i j ij s _ (message w g) q _ v m a b h (ℕ-discrete b i) (λ e f. p e))))
 
   -- a control item moves none
   unmoved-take : (s′ : State K) (y : Item K) → Takes c i j s s′ y q [] → Kept c s s′
-  unmoved-take s′ y m = record { inv = takes-keeps c u i j ij s s′ y q [] v m; unmoved = λ a b h. go a b h (ℕ-discrete a j) (ℕ-discrete b i) }
-    where
-      go : (a b : ℕ) → neighbours c a b ≡ true → Dec (a ≡ j) → Dec (b ≡ i) → waiting s′ a b ≡ waiting s a b
-      go a b h (yes p) (yes r) = rw (p, r) (sym (takes-waiting c u i j ij s s′ y q [] v m))
-      go a b h (yes p) (no r) = takes-still c u i j ij s s′ y q [] v m a b h (no r) (λ e f. r f)
-      go a b h (no p) d = takes-still c u i j ij s s′ y q [] v m a b h d (λ e f. p e)
+  unmoved-take s′ y m =
+      record {
+        inv = takes-keeps c u i j ij s s′ y q [] v m;
+        unmoved = λ a b h. by-dec (ℕ-discrete a j)
+            (λ p. by-dec (ℕ-discrete b i) (λ r. rw (p, r) (sym (takes-waiting c u i j ij s s′ y q [] v m)))
+            (λ r. takes-still c u i j ij s s′ y q [] v m a b h (no r) (λ e f. r f)))
+            (λ p. takes-still c u i j ij s s′ y q [] v m a b h (ℕ-discrete b i) (λ e f. p e));
+      }
 
   pub req-keeps : linkAt s j i ≡ resetReq ∷ q → Kept c s (setLink (setStation s i (withReq j (stationAt s i))) j i q)
   req-keeps held = unmoved-take _ resetReq (takes-req held)

@@ -2,7 +2,7 @@
 use Prim.Native.Nat.{ℕ, zero, suc, _+_, _≤_, _<_}
 use mathlib.Core.Path.{_≡_, refl, sym, _∙_}
 use mathlib.Core.List.{List, [], _∷_}
-use mathlib.Core.Bool.{Bool, true, false, not, cond, _&&_, true≢false}
+use mathlib.Core.Bool.{Bool, true, false, not, _&&_}
 use native.Mathlib.Omega.{arith}
 use native.Mathlib.Decide.{ℕ-discrete}
 use lib.Dec.{eqb, ltb}
@@ -13,34 +13,29 @@ use Rattle.codec.specs.Every.{every}
 use Rattle.codec.proofs.EveryLaws.{both, every-at, every-of, every-fails}
 use Rattle.reset.specs.Reach.{linked, Path, here, further, Reached, isSeen, apart, joins, first, unseen, spreadBy, reached, zeroAlone, everyReached}
 use Rattle.reset.proofs.Views.{all-same}
+use Rattle.reset.proofs.Cases.{by-test, by-dec, clash}
 
 no-both : {A : Type 0} (b : Bool) → b ≡ true → b ≡ false → A
-no-both b p q = absurd (true≢false (sym p ∙ q))
+no-both b p q = clash (sym p ∙ q)
 
 -- ---- the first at which a test holds
 pub first-holds : (n : ℕ) (p : ℕ → Bool) → first n p < n → p (first n p) ≡ true
 unfolding first
 first-holds zero p h = absurd (omega arith)
-first-holds (suc n) p h = by (p 0) refl (first-holds n (λ (k : ℕ). p (suc k)))
-  where
-    by : (b : Bool) → p 0 ≡ b → (first n (λ (k : ℕ). p (suc k)) < n → p (suc (first n (λ (k : ℕ). p (suc k)))) ≡ true) → p (first (suc n) p) ≡ true
-    by true e f = rw (e, e)
-    by false e f =
-        let g : suc (first n (λ (k : ℕ). p (suc k))) < suc n = rw e at h in
-        rw e (f (omega arith))
+first-holds (suc n) p h =
+    by-test (p 0) (λ e. rw (e, e))
+    (λ e. let g : suc (first n (λ (k : ℕ). p (suc k))) < suc n = rw e at h in rw e (first-holds n (λ (k : ℕ). p (suc k)) (omega arith)))
 
 pub first-past : (n : ℕ) (p : ℕ → Bool) → n ≤ first n p → (k : ℕ) → k < n → p k ≡ false
 unfolding first
 first-past zero p h k l = absurd (omega arith)
-first-past (suc n) p h k l = by (p 0) refl (first-past n (λ (i : ℕ). p (suc i)))
+first-past (suc n) p h k l =
+    by-test (p 0) (λ e. let z : suc n ≤ 0 = rw e at h in absurd (omega arith))
+    (λ e. let g : suc n ≤ suc (first n (λ (i : ℕ). p (suc i))) = rw e at h in at e k l (first-past n (λ (i : ℕ). p (suc i)) (omega arith)))
   where
     at : p 0 ≡ false → (k : ℕ) → k < suc n → ((i : ℕ) → i < n → p (suc i) ≡ false) → p k ≡ false
     at e zero l f = e
     at e (suc k) l f = f k (omega arith)
-
-    by : (b : Bool) → p 0 ≡ b → (n ≤ first n (λ (i : ℕ). p (suc i)) → (i : ℕ) → i < n → p (suc i) ≡ false) → p k ≡ false
-    by true e f = let z : suc n ≤ 0 = rw e at h in absurd (omega arith)
-    by false e f = let g : suc n ≤ suc (first n (λ (i : ℕ). p (suc i))) = rw e at h in at e k l (f (omega arith))
 
 -- ---- stations that join
 pub joins-unseen : (m : List (List ℕ)) (seen : List ℕ) (j : ℕ) → joins m seen j ≡ true → getD seen j 0 ≡ 0
@@ -50,13 +45,9 @@ joins-unseen m seen j h = eqb-true _ _ (both (eqb (getD seen j 0) 0) _ h .0)
 -- a number at which a test fails
 pub every-finds : (n : ℕ) (p : ℕ → Bool) → every n p ≡ false → (i : ℕ) × (i < n) × (p i ≡ false)
 unfolding every
-every-finds zero p e = absurd (true≢false e)
-every-finds (suc n) p e = go (p n) refl (every n p) refl (every-finds n p)
-  where
-    go : (b : Bool) → p n ≡ b → (a : Bool) → every n p ≡ a → (every n p ≡ false → (i : ℕ) × (i < n) × (p i ≡ false)) → (i : ℕ) × (i < suc n) × (p i ≡ false)
-    go false h a k f = (n, omega arith, h)
-    go true h true k f = let z : true ≡ false = rw (k, h) at e in absurd (true≢false z)
-    go true h false k f = let t = f k in (t .0, let l = t .1 in omega arith, t .2)
+every-finds zero p e = clash e
+every-finds (suc n) p e =
+    by-test (every n p) (λ h. (n, omega arith, rw h at e)) (λ h. let t = every-finds n p h in (t .0, let l = t .1 in omega arith, t .2))
 
 -- one that joins has a link from one that is reached
 joins-from : (m : List (List ℕ)) (seen : List ℕ) (j : ℕ) → joins m seen j ≡ true → (i : ℕ) × (isSeen seen i ≡ true) × (linked m i j ≡ true)
@@ -81,18 +72,14 @@ module _ (m : List (List ℕ)) where
       → (k : ℕ) (seen : List ℕ) → ((i : ℕ) → isSeen seen i ≡ true → P i) → (i : ℕ) → isSeen (spreadBy k m seen) i ≡ true → P i
   unfolding spreadBy
   spread-keeps P ext zero seen h i e = h i e
-  spread-keeps P ext (suc k) seen h i e = go (ltb (first 8 (joins m seen)) 8) refl (spread-keeps P ext k)
-    where
-      more : joins m seen (first 8 (joins m seen)) ≡ true → (i : ℕ) → Dec (i ≡ first 8 (joins m seen)) → isSeen (set seen (first 8 (joins m seen)) 1) i ≡ true → P i
-      more q i (yes p) e = let f = joins-from m seen (first 8 (joins m seen)) q in rw p (ext (f .0) _ (h (f .0) (f .1)) (f .2))
-      more q i (no p) e = h i (rw (getD-set-other seen (first 8 (joins m seen)) i 1 0) at e)
-
-      go : (b : Bool) → ltb (first 8 (joins m seen)) 8 ≡ b
-          → ((seen : List ℕ) → ((i : ℕ) → isSeen seen i ≡ true → P i) → (i : ℕ) → isSeen (spreadBy k m seen) i ≡ true → P i) → P i
-      go true q f =
-          let t = first-holds 8 (joins m seen) (ltb-true _ _ q) in
-          f (set seen (first 8 (joins m seen)) 1) (λ i e. more t i (ℕ-discrete i (first 8 (joins m seen))) e) i (rw q at e)
-      go false q f = h i (rw q at e)
+  spread-keeps P ext (suc k) seen h i e =
+      by-test (ltb (first 8 (joins m seen)) 8)
+      (λ q. let f = joins-from m seen (first 8 (joins m seen)) (first-holds 8 (joins m seen) (ltb-true _ _ q)) in
+      spread-keeps P ext k (set seen (first 8 (joins m seen)) 1)
+      (λ i e. by-dec (ℕ-discrete i (first 8 (joins m seen)))
+      (λ p. rw p (ext (f .0) _ (h (f .0) (f .1)) (f .2)))
+      (λ p. h i (rw (getD-set-other seen (first 8 (joins m seen)) i 1 0) at e))) i (rw q at e))
+      (λ q. h i (rw q at e))
 
   -- nobody is lost
   set-keeps : (seen : List ℕ) (j i : ℕ) → isSeen seen i ≡ true → isSeen (set seen j 1) i ≡ true
@@ -105,21 +92,14 @@ module _ (m : List (List ℕ)) where
   spread-grows : (k : ℕ) (seen : List ℕ) (i : ℕ) → isSeen seen i ≡ true → isSeen (spreadBy k m seen) i ≡ true
   unfolding spreadBy
   spread-grows zero seen i h = h
-  spread-grows (suc k) seen i h = go (ltb (first 8 (joins m seen)) 8) (spread-grows k (set seen (first 8 (joins m seen)) 1) i (set-keeps seen _ i h))
-    where
-      go : (b : Bool) → isSeen (spreadBy k m (set seen (first 8 (joins m seen)) 1)) i ≡ true → isSeen (cond b (spreadBy k m (set seen (first 8 (joins m seen)) 1)) seen) i ≡ true
-      go true e = e
-      go false e = h
+  spread-grows (suc k) seen i h =
+      by-test (ltb (first 8 (joins m seen)) 8) (λ q. rw q (spread-grows k (set seen (first 8 (joins m seen)) 1) i (set-keeps seen _ i h))) (λ q. rw q h)
 
   -- in the end nobody joins: with each that joins one fewer is left
   all-seen : (seen : List ℕ) → unseen seen ≡ 0 → (j : ℕ) → j < length seen → isSeen seen j ≡ true
   unfolding unseen
   all-seen [] h j l = absurd (omega arith)
-  all-seen (x ∷ seen) h zero l = go (eqb x 0) refl
-    where
-      go : (b : Bool) → eqb x 0 ≡ b → not (eqb x 0) ≡ true
-      go true e = let z : 1 + unseen seen ≡ 0 = rw e at h in absurd (omega arith)
-      go false e = rw e
+  all-seen (x ∷ seen) h zero l = by-test (eqb x 0) (λ e. let z : 1 + unseen seen ≡ 0 = rw e at h in absurd (omega arith)) (λ e. rw e)
   all-seen (x ∷ seen) h (suc j) l = all-seen seen (omega arith) j (omega arith)
 
   pub unseen-set : (seen : List ℕ) (j : ℕ) → j < length seen → getD seen j 0 ≡ 0 → unseen seen ≡ suc (unseen (set seen j 1))
@@ -131,16 +111,12 @@ module _ (m : List (List ℕ)) where
   nobody-joins : (k : ℕ) (seen : List ℕ) → length seen ≡ 8 → unseen seen ≤ k → (j : ℕ) → j < 8 → joins m (spreadBy k m seen) j ≡ false
   unfolding spreadBy joins
   nobody-joins zero seen n u j l = rw (not-true (eqb (getD seen j 0) 0) (all-seen seen (omega arith) j (omega arith)))
-  nobody-joins (suc k) seen n u j l = go (ltb (first 8 (joins m seen)) 8) refl (nobody-joins k)
-    where
-      go : (b : Bool) → ltb (first 8 (joins m seen)) 8 ≡ b → ((seen : List ℕ) → length seen ≡ 8 → unseen seen ≤ k → (j : ℕ) → j < 8 → joins m (spreadBy k m seen) j ≡ false)
-          → joins m (cond b (spreadBy k m (set seen (first 8 (joins m seen)) 1)) seen) j ≡ false
-      go true q f =
-          let lt = ltb-true _ _ q in
-          let e = joins-unseen m seen (first 8 (joins m seen)) (first-holds 8 (joins m seen) lt) in
-          let v = unseen-set seen (first 8 (joins m seen)) (omega arith) e in
-          f (set seen (first 8 (joins m seen)) 1) (length-set seen _ 1 ∙ n) (omega arith) j l
-      go false q f = first-past 8 (joins m seen) (ltb-false _ _ q) j l
+  nobody-joins (suc k) seen n u j l =
+      by-test (ltb (first 8 (joins m seen)) 8)
+      (λ q. let lt = ltb-true _ _ q in
+      let v = unseen-set seen (first 8 (joins m seen)) (omega arith) (joins-unseen m seen (first 8 (joins m seen)) (first-holds 8 (joins m seen) lt)) in
+      rw q (nobody-joins k (set seen (first 8 (joins m seen)) 1) (length-set seen _ 1 ∙ n) (omega arith) j l))
+      (λ q. rw q (first-past 8 (joins m seen) (ltb-false _ _ q) j l))
 
   -- ---- the test gives paths
   zero-path : (i : ℕ) → isSeen zeroAlone i ≡ true → Path m 0 i
@@ -157,13 +133,10 @@ module _ (m : List (List ℕ)) where
     path-in : (i : ℕ) → Path m 0 i → isSeen (reached m zeroAlone) i ≡ true
     unfolding unseen
     path-in i here = spread-grows (unseen zeroAlone) zeroAlone 0 refl
-    path-in i (further {j = j} p e) = go (path-in j p) (isSeen (reached m zeroAlone) i) refl
-      where
-        go : isSeen (reached m zeroAlone) j ≡ true → (b : Bool) → isSeen (reached m zeroAlone) i ≡ b → isSeen (reached m zeroAlone) i ≡ true
-        go q true h = h
-        go q false h =
-            no-both _ (joins-to m (reached m zeroAlone) j i (w j i e .0) q e (eqb-true _ _ (not-false _ h)))
-            (nobody-joins (unseen zeroAlone) zeroAlone refl (omega arith) i (w j i e .1))
+    path-in i (further {j = j} p e) =
+        by-test (isSeen (reached m zeroAlone) i) (λ h. h)
+        (λ h. no-both _ (joins-to m (reached m zeroAlone) j i (w j i e .0) (path-in j p) e (eqb-true _ _ (not-false _ h)))
+        (nobody-joins (unseen zeroAlone) zeroAlone refl (omega arith) i (w j i e .1)))
 
     pub reached-test : (n : ℕ) → Reached n m → everyReached n m ≡ true
     unfolding everyReached

@@ -3,14 +3,14 @@
 use Prim.Native.Nat.{ℕ, _<_}
 use mathlib.Core.Path.{_≡_, refl}
 use mathlib.Core.List.{List, [], _∷_}
-use mathlib.Core.Bool.{Bool, true, false, true≢false}
-use native.Mathlib.Omega.{arith}
+use mathlib.Core.Bool.{Bool, true, false}
 use borrow.Author.Tests.{not-false, leb-false}
 use Rattle.reset.specs.Config.{Config, isStation, neighbours, limitAt, allowanceAt}
 use Rattle.reset.specs.Clock.{Clock}
 use Rattle.reset.specs.State.{Mode, normal, mute, standBy, Item, message, resetReq, resetDone, State, stationAt, linkAt, doneSeen, sentTo}
 use Rattle.reset.specs.Bears.{Bears, Taker}
-use Rattle.reset.specs.Steps.{Step, enter, send, recv, start, Entry, refused, entry, modeAfter, Outcome, refuse, guard, inBounds, bounded, doEnter, maySend, doSend, doReceive, withReq, withDone, doMark, receive, doStart, isNormal, step}
+use Rattle.reset.specs.Steps.{Step, enter, send, recv, start, Entry, refused, entry, Outcome, refuse, guard, inBounds, bounded, doEnter, maySend, doSend, doReceive, withReq, withDone, doMark, receive, doStart, isNormal, step}
+use Rattle.reset.proofs.Cases.{clash}
 
 -- ---- the tests that refuse
 module _ {K : Clock} (c : Config) (s : State K) (P : Outcome K → Type 0) where
@@ -25,8 +25,8 @@ module _ {K : Clock} (c : Config) (s : State K) (P : Outcome K → Type 0) where
 
 pub is-normal : (m : Mode) → isNormal m ≡ true → m ≡ normal
 is-normal normal h = refl
-is-normal mute h = absurd (true≢false (cc))
-is-normal standBy h = absurd (true≢false (cc))
+is-normal mute h = clash (cc)
+is-normal standBy h = clash (cc)
 
 -- ---- what holds of a refusal, and of each outcome that is accepted with what was tested, holds of every step
 pub record Cases {K : Clock} (c : Config) (s : State K) (P : Step → Outcome K → Type 0) : Type 0 where
@@ -77,61 +77,40 @@ module _ {K : Clock} (c : Config) (s : State K) (P : Step → Outcome K → Type
       (C .started i (not-false (isStation c i) h) (is-normal _ (not-false _ m)) (leb-false _ _ l)))))
 
 -- ---- a refused step leaves the state as it was
-abbrev Leaves : {K : Clock} → State K → Step → Outcome K → Type 0
-Leaves s p o = (k : ℕ) → o .answer ≡ refused k → o .after ≡ s
-
-entry-refused : {A : Type 0} (e : Entry) (k : ℕ) → entry e ≡ refused k → A
-entry-refused e k h = let z : _≡_ {A = ℕ} 0 1 = cc in absurd (omega arith)
-
-mode-refused : {A : Type 0} (i : ℕ) (m : Mode) (p k : ℕ) → modeAfter i m p ≡ refused k → A
-mode-refused i m p k h = let z : _≡_ {A = ℕ} 0 1 = cc in absurd (omega arith)
-
 pub refused-leaves : {K : Clock} (c : Config) (s : State K) (p : Step) (k : ℕ) → step c s p .answer ≡ refused k → step c s p .after ≡ s
 refused-leaves c s =
-    of-step c s (Leaves s)
+    of-step c s (λ p o. (k : ℕ) → o .answer ≡ refused k → o .after ≡ s)
     (record {
       refusal = λ p k k′ h. refl;
-      own = λ i g si l b k h. entry-refused _ k h;
-      sent = λ i j g si ij m l b k h. entry-refused _ k h;
-      received = λ i j w g q si ij e b k h. entry-refused _ k h;
-      req = λ i j q si ij e b k h. mode-refused i _ _ k h;
-      done = λ i j q si ij e b k h. mode-refused i _ _ k h;
-      started = λ i si m l b k h. mode-refused i _ _ k h;
+      own = λ i g si l b k h. clash (cc);
+      sent = λ i j g si ij m l b k h. clash (cc);
+      received = λ i j w g q si ij e b k h. clash (cc);
+      req = λ i j q si ij e b k h. clash (cc);
+      done = λ i j q si ij e b k h. clash (cc);
+      started = λ i si m l b k h. clash (cc);
     })
 
 -- ---- an accepted entry's record says which step it was, and in which phase its station stood
-abbrev BearsAll : {K : Clock} → State K → Step → Outcome K → Type 0
-BearsAll s p o = (e : Entry) → o .answer ≡ entry e → Bears s p e
-
-pub refused-entry : {A : Type 0} (k : ℕ) (e : Entry) → refused k ≡ entry e → A
-refused-entry k e h = let z : _≡_ {A = ℕ} 0 1 = cc in absurd (omega arith)
-
-pub mode-entry : {A : Type 0} (i : ℕ) (m : Mode) (p : ℕ) (e : Entry) → modeAfter i m p ≡ entry e → A
-mode-entry i m p e h = let z : _≡_ {A = ℕ} 0 1 = cc in absurd (omega arith)
-
 entry-same : (e e′ : Entry) → entry e ≡ entry e′ → e ≡ e′
 entry-same e e′ h = cc
 
 pub record-bears : {K : Clock} (c : Config) (s : State K) (p : Step) (e : Entry) → step c s p .answer ≡ entry e → Bears s p e
 record-bears c s =
-    of-step c s (BearsAll s)
+    of-step c s (λ p o. (e : Entry) → o .answer ≡ entry e → Bears s p e)
     (record {
-      refusal = λ p k e h. refused-entry k e h;
+      refusal = λ p k e h. clash (cc);
       own = λ i g si l b e h. rw (← entry-same _ e h) (refl, refl, refl, refl, refl);
       sent = λ i j g si ij m l b e h. rw (← entry-same _ e h) (refl, refl, refl, refl, refl);
       received = λ i j w g q si ij k b e h. rw (← entry-same _ e h) (refl, refl, refl, refl, (w, q, k));
-      req = λ i j q si ij k b e h. mode-entry i _ _ e h;
-      done = λ i j q si ij k b e h. mode-entry i _ _ e h;
-      started = λ i si m l b e h. mode-entry i _ _ e h;
+      req = λ i j q si ij k b e h. clash (cc);
+      done = λ i j q si ij k b e h. clash (cc);
+      started = λ i si m l b e h. clash (cc);
     })
 
 -- ---- an accepted step is answered for the station that took it
-abbrev TakerAll : {K : Clock} → Step → Outcome K → Type 0
-TakerAll p o = Taker p (o .answer)
-
 pub answers-taker : {K : Clock} (c : Config) (s : State K) (p : Step) → Taker p (step c s p .answer)
 answers-taker c s =
-    of-step c s TakerAll
+    of-step c s (λ p o. Taker p (o .answer))
     (record {
       refusal = λ p k. tt;
       own = λ i g si l b. refl;

@@ -19,6 +19,7 @@ use Rattle.reset.proofs.Changes.{Move, stays, renews, Quiet, Summary}
 use Rattle.reset.proofs.Invariant.{Invariant, Kept, kept-then}
 use Rattle.reset.proofs.Keeps.{begin-keeps, turn-keeps}
 use Rattle.reset.proofs.Messages.{enter-keeps, send-keeps, send-log, receive-keeps, receive-log, req-keeps, done-keeps}
+use Rattle.reset.proofs.Cases.{by-dec}
 
 -- ---- moves of a station's record
 move-then : {K : Clock} (x y z : Station K) → Move x y → Move y z → Move x z
@@ -34,15 +35,15 @@ move-rule x ruleC = stays refl refl
 move-rule x noRule = stays refl refl
 
 module _ {K : Clock} (c : Config) (i : ℕ) where
-  move-turn-once : (s : State K) (k : ℕ) → Dec (k ≡ i) → Move (stationAt s k) (stationAt (turnOnce c i s) k)
-  move-turn-once s k (yes p) = rw (p, station-turn-once) (move-rule (stationAt s i) (ruleOf c i (stationAt s i)))
-  move-turn-once s k (no p) = rw (station-turn-once-other c i s k p) (stays refl refl)
+  move-turn-once : (s : State K) (k : ℕ) → Move (stationAt s k) (stationAt (turnOnce c i s) k)
+  move-turn-once s k =
+      by-dec (ℕ-discrete k i)
+      (λ p. rw (p, station-turn-once) (move-rule (stationAt s i) (ruleOf c i (stationAt s i))))
+      (λ p. rw (station-turn-once-other c i s k p) (stays refl refl))
 
   move-turn : (s : State K) (k : ℕ) → Move (stationAt s k) (stationAt (turn c i s) k)
   unfolding turn
-  move-turn s k =
-      let d = ℕ-discrete k i in
-      move-then _ _ _ (move-then _ _ _ (move-turn-once s k d) (move-turn-once _ k d)) (move-turn-once _ k d)
+  move-turn s k = move-then _ _ _ (move-then _ _ _ (move-turn-once s k) (move-turn-once _ k)) (move-turn-once _ k)
 
   -- a change of station i's record to x, in the same phase and with the same time, then the reset rules
   settle-quiet : (s s′ : State K) (x : Station K) → stationAt s′ i ≡ x → ((k : ℕ) → k ≢ i → stationAt s′ k ≡ stationAt s k)
@@ -53,13 +54,9 @@ module _ {K : Clock} (c : Config) (i : ℕ) where
         mode-is = refl;
         phase-is = refl;
         others = λ j n. station-turn-other c i s′ j n ∙ os j n;
-        moves = λ j. move-then _ _ _ (at j (ℕ-discrete j i)) (move-turn s′ j);
+        moves = λ j. move-then _ _ _ (by-dec (ℕ-discrete j i) (λ r. rw (r, here) (stays p q)) (λ r. rw (os j r) (stays refl refl))) (move-turn s′ j);
         unmoved = k .unmoved;
       }
-    where
-      at : (j : ℕ) → Dec (j ≡ i) → Move (stationAt s j) (stationAt s′ j)
-      at j (yes r) = rw (r, here) (stays p q)
-      at j (no r) = rw (os j r) (stays refl refl)
 
 -- ---- each outcome that is accepted
 abbrev Does : {K : Clock} → Config → State K → Step → Outcome K → Type 0

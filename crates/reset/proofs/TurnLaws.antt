@@ -2,13 +2,14 @@
 use Prim.Native.Nat.{ℕ, zero, suc}
 use mathlib.Core.Path.{_≡_, refl, sym, ap, _∙_}
 use mathlib.Core.Logic.{_≢_}
-use mathlib.Core.Bool.{Bool, true, false, not, _&&_, _||_, and-false, true≢false}
+use mathlib.Core.Bool.{Bool, true, false, not, _&&_, _||_, and-false}
 use Rattle.codec.specs.Every.{every, some}
 use Rattle.reset.specs.Config.{Config, neighbours}
 use Rattle.reset.specs.Clock.{Clock}
 use Rattle.reset.specs.State.{Mode, normal, mute, standBy, Station, State, stationAt, reqSeen, doneSeen}
 use Rattle.reset.specs.Steps.{everyNeighbour, someNeighbour, begun, renewed, woken, beginReset, renew, wake, Rule, ruleA, ruleB, ruleC, noRule, ruleIn, ruleOf, applied, apply, turnOnce, turn}
 use Rattle.reset.proofs.Views.{none-at, station-set, station-set-other, station-put-all}
+use Rattle.reset.proofs.Cases.{by-test, clash}
 
 -- ---- marks that nobody has
 pub some-none : (n : ℕ) (r p : ℕ → Bool) → ((j : ℕ) → p j ≡ false) → some n (λ j. r j && p j) ≡ false
@@ -20,12 +21,10 @@ some-none (suc n) r p h = rw (some-none n r p h, h n, and-false)
 every-none : (n : ℕ) (r p q : ℕ → Bool) → ((j : ℕ) → p j ≡ false) → some n (λ j. r j && q j) ≡ true → every n (λ j. not (r j) || p j) ≡ false
 unfolding every some
 every-none zero r p q h e = sym e
-every-none (suc n) r p q h e = rw (h n) (go (some n (λ j. r j && q j)) (r n) (every-none n r p q h) e)
-  where
-    go : (a b : Bool) → (a ≡ true → every n (λ j. not (r j) || p j) ≡ false) → (a || b && q n) ≡ true → (every n (λ j. not (r j) || p j) && (not b || false)) ≡ false
-    go true b f k = rw (f refl)
-    go false true f k = and-false (every n (λ j. not (r j) || p j))
-    go false false f k = absurd (true≢false (sym k))
+every-none (suc n) r p q h e =
+    rw (h n)
+    (by-test (some n (λ j. r j && q j)) (λ a. rw (every-none n r p q h a))
+    (λ a. by-test (r n) (λ b. rw b (and-false (every n (λ j. not (r j) || p j)))) (λ b. clash (sym (rw (a, b) at e)))))
 
 -- ---- what was tested where a rule applies
 abbrev pub Tested : {K : Clock} → Config → ℕ → Station K → Rule → Type 0
@@ -35,16 +34,12 @@ Tested c i x ruleC = (x .mode ≡ normal) × (someNeighbour c i (reqSeen x) ≡ 
 Tested c i x noRule = Unit {0}
 
 pub rule-tested : {K : Clock} (c : Config) (i : ℕ) (x : Station K) → Tested c i x (ruleOf c i x)
-rule-tested c i x = go (x .mode) (everyNeighbour c i (reqSeen x)) (everyNeighbour c i (doneSeen x)) (someNeighbour c i (reqSeen x)) refl refl refl refl
+rule-tested c i x = go (x .mode) refl
   where
-    go : (m : Mode) (qa da qs : Bool) → x .mode ≡ m → everyNeighbour c i (reqSeen x) ≡ qa → everyNeighbour c i (doneSeen x) ≡ da
-        → someNeighbour c i (reqSeen x) ≡ qs → Tested c i x (ruleIn m qa da qs)
-    go mute true da qs e q d r = (e, q)
-    go mute false da qs e q d r = tt
-    go standBy qa true qs e q d r = (e, d)
-    go standBy qa false qs e q d r = tt
-    go normal qa da true e q d r = (e, r)
-    go normal qa da false e q d r = tt
+    go : (m : Mode) → x .mode ≡ m → Tested c i x (ruleIn m (everyNeighbour c i (reqSeen x)) (everyNeighbour c i (doneSeen x)) (someNeighbour c i (reqSeen x)))
+    go mute e = by-test (everyNeighbour c i (reqSeen x)) (λ q. rw q (e, q)) (λ q. rw q tt)
+    go standBy e = by-test (everyNeighbour c i (doneSeen x)) (λ q. rw q (e, q)) (λ q. rw q tt)
+    go normal e = by-test (someNeighbour c i (reqSeen x)) (λ q. rw q (e, q)) (λ q. rw q tt)
 
 -- ---- what a rule does to the record of its station, and to others
 abbrev pub next : {K : Clock} → Config → ℕ → Station K → Station K
@@ -86,24 +81,21 @@ module _ {K : Clock} (c : Config) (i : ℕ) where
   no-done x h = every-none 8 (neighbours c i) (doneSeen (renewed (begun x))) (reqSeen x) none-at h
 
   -- after a at most b
-  after-a : (x : Station K) (t : Bool) → everyNeighbour c i (doneSeen (renewed x)) ≡ t → ruleOf c i (next c i (renewed x)) ≡ noRule
-  after-a x true h = rw (h, no-req x)
-  after-a x false h = rw (h, h)
+  after-a : (x : Station K) → ruleOf c i (next c i (renewed x)) ≡ noRule
+  after-a x = by-test (everyNeighbour c i (doneSeen (renewed x))) (λ h. rw (h, no-req x)) (λ h. rw (h, h))
 
   -- after c at most a
-  after-c : (x : Station K) (t : Bool) → everyNeighbour c i (reqSeen x) ≡ t → someNeighbour c i (reqSeen x) ≡ true → ruleOf c i (next c i (begun x)) ≡ noRule
-  after-c x true h e = rw (h, no-done x e)
-  after-c x false h e = rw (h, h)
+  after-c : (x : Station K) → someNeighbour c i (reqSeen x) ≡ true → ruleOf c i (next c i (begun x)) ≡ noRule
+  after-c x e = by-test (everyNeighbour c i (reqSeen x)) (λ h. rw (h, no-done x e)) (λ h. rw (h, h))
 
   -- after b at most c and a
-  after-b : (x : Station K) (t : Bool) → someNeighbour c i (reqSeen x) ≡ t → ruleOf c i (next c i (next c i (woken x))) ≡ noRule
-  after-b x true h = rw h (after-c (woken x) _ refl h)
-  after-b x false h = rw (h, h, h)
+  after-b : (x : Station K) → ruleOf c i (next c i (next c i (woken x))) ≡ noRule
+  after-b x = by-test (someNeighbour c i (reqSeen x)) (λ h. rw h (after-c (woken x) h)) (λ h. rw (h, h, h))
 
   from : (x : Station K) (r : Rule) → ruleOf c i x ≡ r → Tested c i x r → ruleOf c i (next c i (next c i (applied x r))) ≡ noRule
-  from x ruleA h t = again (next c i (renewed x)) (after-a x _ refl)
-  from x ruleB h t = after-b x _ refl
-  from x ruleC h t = again (next c i (begun x)) (after-c x _ refl (t .1))
+  from x ruleA h t = again (next c i (renewed x)) (after-a x)
+  from x ruleB h t = after-b x
+  from x ruleC h t = again (next c i (begun x)) (after-c x (t .1))
   from x noRule h t = again (next c i x) (again x h)
 
   -- none is left

@@ -3,7 +3,7 @@ use Prim.Native.Nat.{ℕ, zero, suc, _≤_, _<_}
 use mathlib.Core.Path.{_≡_, refl, ap, _∙_}
 use mathlib.Core.Logic.{_≢_}
 use mathlib.Core.List.{List, [], _∷_, _++_}
-use mathlib.Core.Bool.{Bool, true, false, cond}
+use mathlib.Core.Bool.{Bool, true, false}
 use native.Mathlib.Omega.{arith}
 use native.Mathlib.Decide.{ℕ-discrete}
 use lib.ListN.{getD, replicate}
@@ -12,7 +12,7 @@ use Rattle.clock.specs.Timestamp.{zeros}
 use Rattle.reset.specs.Config.{Config, neighbours}
 use Rattle.reset.specs.Clock.{Clock}
 use Rattle.reset.proofs.Cases.{by-test, by-dec}
-use Rattle.reset.specs.State.{Item, Station, State, noneSeen, blankStation, stationAt, linkAt, setStation, setLink, putOn, putLinked, putFirst, putOnAll}
+use Rattle.reset.specs.State.{Item, Station, State, noneSeen, blankStation, stationAt, linkAt, setStation, setLink, putLinked, putFirst, putOnAll}
 
 -- ---- lists
 pub all-same : {A : Type 0} (n : ℕ) (d : A) (i : ℕ) → getD (replicate n d) i d ≡ d
@@ -76,19 +76,11 @@ module _ {K : Clock} (c : Config) (i : ℕ) (x : Item K) where
 
   link-put-linked-row : (s : State K) (j a b : ℕ) → a ≢ i → linkAt (putLinked c s i j x) a b ≡ linkAt s a b
   unfolding putLinked
-  link-put-linked-row s j a b n = go (neighbours c i j)
-    where
-      go : (t : Bool) → linkAt (cond t (putOn s i j x) s) a b ≡ linkAt s a b
-      go true = link-set-row s i j _ a b n
-      go false = refl
+  link-put-linked-row s j a b n = by-test (neighbours c i j) (λ e. rw e (link-set-row s i j _ a b n)) (λ e. rw e)
 
   link-put-linked-col : (s : State K) (j b : ℕ) → b ≢ j → linkAt (putLinked c s i j x) i b ≡ linkAt s i b
   unfolding putLinked
-  link-put-linked-col s j b n = go (neighbours c i j)
-    where
-      go : (t : Bool) → linkAt (cond t (putOn s i j x) s) i b ≡ linkAt s i b
-      go true = link-set-col s i j _ b n
-      go false = refl
+  link-put-linked-col s j b n = by-test (neighbours c i j) (λ e. rw e (link-set-col s i j _ b n)) (λ e. rw e)
 
   -- over the links to 0 .. k - 1
   module _ (s : State K) where

@@ -3,7 +3,7 @@ use Prim.Native.Nat.{ℕ, zero, suc, _≤_, _<_}
 use mathlib.Core.Path.{_≡_, refl}
 use mathlib.Core.Logic.{_≢_}
 use mathlib.Core.List.{List, [], _∷_}
-use mathlib.Core.Bool.{Bool, true, false, cond}
+use mathlib.Core.Bool.{true}
 use native.Mathlib.Omega.{arith}
 use lib.Dec.{eqb, leb, ltb}
 use lib.ListN.{length, getD}
@@ -24,11 +24,12 @@ use Rattle.reset.specs.Steps.{Step, Entry, Answer, refused, entry, modeAfter, O
 use Rattle.reset.specs.Network.{initial, log}
 use Rattle.reset.specs.WellFormed.{registerFits, ofStation, countFits, countsFit, modeFits, phaseFits, stationFits, itemFitsAt, linkFits, wellFormed, stepFits, StepsFit}
 use Rattle.reset.proofs.Views.{station-set, station-set-link}
-use Rattle.reset.proofs.StepLaws.{of-step, refused-entry, mode-entry}
+use Rattle.reset.proofs.StepLaws.{of-step}
 use Rattle.reset.proofs.Formed.{Formed, formed-of, initial-well-formed, step-well-formed}
 use Rattle.causality.specs.HappenedBefore.{Accepted, withEntry, accepted, entryAt}
 use Rattle.steps.specs.Answers.{recordOf}
 use Rattle.run_archive.specs.Claims.{InRange, AllInRange}
+use Rattle.reset.proofs.Cases.{by-test, clash}
 
 -- ---- from the tests of a well-formed state
 module _ (c : Config) where
@@ -59,11 +60,9 @@ module _ (c : Config) where
     count-at k l = every-at 8 (countFits c (c .t) v) k (both (eqb (length v) 8) _ h .1) l
 
     count-small : (k : ℕ) → k < 8 → getD v k 0 ≤ c .t
-    count-small k l = go (isStation c k) (leb-true _ _ (count-at k l))
-      where
-        go : (b : Bool) → getD v k 0 ≤ cond b (c .t) 0 → getD v k 0 ≤ c .t
-        go true l = l
-        go false l = omega arith
+    count-small k l =
+        let a = leb-true _ _ (count-at k l) in
+        by-test (isStation c k) (λ e. rw e at a) (λ e. let b : getD v k 0 ≤ 0 = rw e at a in omega arith)
 
     counts-known : clockFits (c .n) (c .t) v ≡ true
     unfolding clockFits isStation
@@ -166,7 +165,7 @@ module _ (c : Config) (w : wellMade c ≡ true) (u : Rules c) where
     step-in-range =
         of-step c s Ranged
         (record {
-          refusal = λ p k f z e q. refused-entry k e q;
+          refusal = λ p k f z e q. clash (cc);
           own = λ i g si l b f z e q. of-entry _ e (in-range 1 i 255 g (entered i (stationAt s i)) (own-peer i) si (rw station-set at (f .station i (below-8 i si))) z
               (let o = put-same 0 (stationAt s i .time) i (suc (getD (stationAt s i .time) i 0)) in omega arith)) q;
           sent = λ i j g si ij m l b f z e q. of-entry _ e (in-range 2 i j g (sending i j (stationAt s i)) (sent-peer i j ij) si (rw (station-set-link, station-set) at (f .station i (below-8 i si))) z
@@ -174,9 +173,9 @@ module _ (c : Config) (w : wellMade c ≡ true) (u : Rules c) where
           received = λ i j v g r si ij d b f z e q. of-entry _ e (in-range 3 i j g (receiving i j v (stationAt s i)) (received-peer i j ij) si (rw (station-set-link, station-set) at (f .station i (below-8 i si)))
               (first-fits c j i v g r (rw d at (h .link j i (let n = u .inside i j ij in let m = u .small in omega arith) (below-8 i si))))
               (let o = put-same 0 (merged (stationAt s i .time) v) i (suc (getD (stationAt s i .time) i 0)) in omega arith)) q;
-          req = λ i j r si ij d b f z e q. mode-entry i _ _ e q;
-          done = λ i j r si ij d b f z e q. mode-entry i _ _ e q;
-          started = λ i si m l b f z e q. mode-entry i _ _ e q;
+          req = λ i j r si ij d b f z e q. clash (cc);
+          done = λ i j r si ij d b f z e q. clash (cc);
+          started = λ i si m l b f z e q. clash (cc);
         })
 
   -- ---- a list of steps

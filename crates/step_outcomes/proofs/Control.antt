@@ -15,8 +15,10 @@ use Rattle.reset.specs.Clock.{Clock, vector}
 use Rattle.reset.specs.State.{Item, Station, State, stationAt, linkAt, setStation, putOnAll}
 use Rattle.reset.specs.Steps.{Rule, ruleA, ruleB, ruleC, noRule, ruleOf, applied, countBounded, linkBounded, inBounds}
 use Rattle.reset.proofs.Views.{zeros-at, station-set, station-set-other, link-set-station, station-put-all, link-put-all, link-put-all-far, link-put-all-row}
+use Rattle.reset.proofs.Bounds.{Bounds}
 use Rattle.reset_rules.specs.Turn.{Turning, turnedOnce, turnedAll, turned, started, putItems}
-use Rattle.step_outcomes.proofs.Local.{localBounds, Bounds, bool-iff, local}
+use Rattle.step_outcomes.proofs.Local.{localBounds, bool-iff, local}
+use Rattle.reset.proofs.Cases.{by-test}
 
 -- every link out of i has room for k items more
 unfoldable pub roomFor : Config → State vector → ℕ → ℕ → Bool
@@ -71,47 +73,37 @@ module _ (c : Config) (s s₁ : State vector) (v : Bounds c s) (i : ℕ) (il : i
     (out : (b : ℕ) → linkAt s₁ i b ≡ linkAt s i b)
     (rows : (a b : ℕ) → a ≢ i → length (linkAt s₁ a b) ≤ length (linkAt s a b))
     (x : Station vector) (within : Within (c .t) x) (q : List (Item vector)) where
-  after : State vector
+  abbrev after : State vector
   after = putItems c (setStation s₁ i x) i q
 
   others : (k : ℕ) → k ≢ i → stationAt after k ≡ stationAt s k
-  unfolding after
   others k n = station-put-items c i (setStation s₁ i x) q k ∙ station-set-other s₁ i x k n ∙ stations k
 
   here : stationAt after i ≡ x
-  unfolding after
   here = station-put-items c i (setStation s₁ i x) q i ∙ station-set s₁ i x
 
   kept : (a b : ℕ) → a ≢ i → length (linkAt after a b) ≤ length (linkAt s a b)
-  unfolding after
   kept a b n = rw (link-put-items-row c i (setStation s₁ i x) q a b n, link-set-station s₁ i x a b) (rows a b n)
 
   grown : (b : ℕ) → b < 8 → neighbours c i b ≡ true → length (linkAt after i b) ≡ length (linkAt s i b) + length q
-  unfolding after
   grown b l h = rw (link-put-items c i (setStation s₁ i x) q b l h, link-set-station s₁ i x i b, out b, length-append)
 
   same : (b : ℕ) → neighbours c i b ≡ false → linkAt after i b ≡ linkAt s i b
-  unfolding after
   same b h = link-put-items-far c i (setStation s₁ i x) q b h ∙ link-set-station s₁ i x i b ∙ out b
 
   counts : every 8 (countBounded c after i) ≡ true
   counts = every-of 8 (countBounded c after i) (λ k l. rw here (le-leb _ _ (within k l)))
 
-  one-link : (b : ℕ) → b < 8 → (t : Bool) → neighbours c i b ≡ t → (not t || leb (length (linkAt s i b) + length q) (places c i b)) ≡ true → linkBounded c after i b ≡ true
-  one-link b l true e h = rw (grown b l e) h
-  one-link b l false e h = rw (same b e) (v .links i b il l)
-
-  one-room : (b : ℕ) → b < 8 → (t : Bool) → neighbours c i b ≡ t → linkBounded c after i b ≡ true → (not t || leb (length (linkAt s i b) + length q) (places c i b)) ≡ true
-  one-room b l true e h = rw (grown b l e) at h
-  one-room b l false e h = refl
-
   links : every 8 (linkBounded c after i) ≡ roomFor c s i (length q)
   unfolding roomFor
   links =
       bool-iff _ _
-      (λ h. every-of 8 _ (λ b l. one-room b l (neighbours c i b) refl (every-at 8 (linkBounded c after i) b h l)))
-      (λ h. every-of 8 (linkBounded c after i) (λ b l. one-link b l (neighbours c i b) refl (every-at 8 (λ (b : ℕ). not (neighbours c i b) || leb (length (linkAt s i b) + length q) (places c i b)) b h l)))
+      (λ h. every-of 8 _ (λ b l. by-test (neighbours c i b)
+      (λ e. let z = every-at 8 (linkBounded c after i) b h l in rw (e, ← grown b l e) z) (λ e. rw e)))
+      (λ h. every-of 8 (linkBounded c after i) (λ b l. by-test (neighbours c i b)
+      (λ e. rw (grown b l e) (rw e at (every-at 8 (λ (b : ℕ). not (neighbours c i b) || leb (length (linkAt s i b) + length q) (places c i b)) b h l)))
+      (λ e. rw (same b e) (v .links i b il l))))
 
   pub control-bounds : inBounds c (putItems c (setStation s₁ i x) i q) ≡ (leb (x .phase) 999999 && roomFor c s i (length q))
-  unfolding after localBounds
+  unfolding localBounds
   control-bounds = local c s after i il v others kept ∙ rw (counts, links, here)

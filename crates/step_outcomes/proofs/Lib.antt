@@ -1,5 +1,4 @@
 pub mod Local
 pub mod Entries
-pub mod Formed
 pub mod Control
 pub mod Outcome

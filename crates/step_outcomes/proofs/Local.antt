@@ -11,8 +11,12 @@ use Rattle.codec.specs.Every.{every}
 use Rattle.codec.proofs.EveryLaws.{both, join, every-at, every-of}
 use Rattle.reset.specs.Config.{Config, places}
 use Rattle.reset.specs.Clock.{Clock}
-use Rattle.reset.specs.State.{State, stationAt, linkAt}
+use Rattle.reset.specs.State.{Item, State, stationAt, linkAt, setLink}
+use Rattle.reset.proofs.Bounds.{Bounds, bounds, in-bounds}
 use Rattle.reset.specs.Steps.{phaseBounded, countBounded, linkBounded, inBounds}
+use Rattle.reset.proofs.Cases.{by-dec}
+use Rattle.reset.proofs.Views.{link-set, link-set-row, link-set-col}
+use mathlib.Core.List.{List, _∷_}
 
 -- the bounds of station i and of its links out
 unfoldable pub localBounds : {K : Clock} → Config → State K → ℕ → Bool
@@ -24,29 +28,13 @@ bool-iff true b f g = sym (f refl)
 bool-iff false true f g = g refl
 bool-iff false false f g = refl
 
--- the bounds of every part
-pub record Bounds {K : Clock} (c : Config) (s : State K) : Type 0 where
-  pub phases : (i : ℕ) → i < 8 → phaseBounded s i ≡ true
-  pub counts : (i k : ℕ) → i < 8 → k < 8 → countBounded c s i k ≡ true
-  pub links : (i j : ℕ) → i < 8 → j < 8 → linkBounded c s i j ≡ true
-
-pub bounds : {K : Clock} (c : Config) (s : State K) → inBounds c s ≡ true → Bounds c s
-unfolding inBounds
-bounds c s h =
-    let a = both (every 8 (phaseBounded s)) _ h in
-    let b = both (every 8 (λ (i : ℕ). every 8 (countBounded c s i))) _ (a .1) in
-    record {
-      phases = λ i l. every-at 8 (phaseBounded s) i (a .0) l;
-      counts = λ i k l m. every-at 8 (countBounded c s i) k (every-at 8 (λ (i : ℕ). every 8 (countBounded c s i)) i (b .0) l) m;
-      links = λ i j l m. every-at 8 (linkBounded c s i) j (every-at 8 (λ (i : ℕ). every 8 (linkBounded c s i)) i (b .1) l) m;
-    }
-
-pub in-bounds : {K : Clock} (c : Config) (s : State K) → Bounds c s → inBounds c s ≡ true
-unfolding inBounds
-in-bounds c s b =
-    join _ _ (every-of 8 (phaseBounded s) (b .phases))
-    (join _ _ (every-of 8 (λ (i : ℕ). every 8 (countBounded c s i)) (λ i l. every-of 8 (countBounded c s i) (λ k m. b .counts i k l m)))
-    (every-of 8 (λ (i : ℕ). every 8 (linkBounded c s i)) (λ i l. every-of 8 (linkBounded c s i) (λ j m. b .links i j l m))))
+-- with its first item taken off, no link is longer
+pub taken-shorter : {K : Clock} (s : State K) (j i : ℕ) (y : Item K) (q : List (Item K)) → linkAt s j i ≡ y ∷ q
+    → (a b : ℕ) → length (linkAt (setLink s j i q) a b) ≤ length (linkAt s a b)
+taken-shorter s j i y q e a b =
+    by-dec (ℕ-discrete a j)
+    (λ p. by-dec (ℕ-discrete b i) (λ r. rw (p, r, link-set s j i q, e) (omega arith)) (λ r. rw (p, link-set-col s j i q b r) (omega arith)))
+    (λ p. rw (link-set-row s j i q a b p) (omega arith))
 
 -- from a state in bounds, where no other station's record has changed and no other station's link has grown
 module _ {K : Clock} (c : Config) (s s′ : State K) (i : ℕ) (il : i < 8) (v : Bounds c s)
@@ -58,24 +46,12 @@ module _ {K : Clock} (c : Config) (s s′ : State K) (i : ℕ) (il : i < 8) (v :
       let a = both (phaseBounded s′ i) _ h in
       let b = both (every 8 (countBounded c s′ i)) _ (a .1) in
       record {
-        phases = λ k l. phase k l (a .0) (ℕ-discrete k i);
-        counts = λ k m l n. count k m l n (b .0) (ℕ-discrete k i);
-        links = λ k m l n. link k m l n (b .1) (ℕ-discrete k i);
+        phases = λ k l. by-dec (ℕ-discrete k i) (λ p. rw p (a .0)) (λ p. rw (others k p) (v .phases k l));
+        counts = λ k m l n. by-dec (ℕ-discrete k i) (λ p. rw p (every-at 8 (countBounded c s′ i) m (b .0) n)) (λ p. rw (others k p) (v .counts k m l n));
+        links = λ k m l n. by-dec (ℕ-discrete k i) (λ p. rw p (every-at 8 (linkBounded c s′ i) m (b .1) n))
+            (λ p. let a : length (linkAt s k m) ≤ places c k m = leb-true _ _ (v .links k m l n) in
+            le-leb (length (linkAt s′ k m)) (places c k m) (omega (arith, rows k m p)));
       }
-    where
-      phase : (k : ℕ) → k < 8 → phaseBounded s′ i ≡ true → Dec (k ≡ i) → phaseBounded s′ k ≡ true
-      phase k l h (yes p) = rw p h
-      phase k l h (no p) = rw (others k p) (v .phases k l)
-
-      count : (k m : ℕ) → k < 8 → m < 8 → every 8 (countBounded c s′ i) ≡ true → Dec (k ≡ i) → countBounded c s′ k m ≡ true
-      count k m l n h (yes p) = rw p (every-at 8 (countBounded c s′ i) m h n)
-      count k m l n h (no p) = rw (others k p) (v .counts k m l n)
-
-      link : (k m : ℕ) → k < 8 → m < 8 → every 8 (linkBounded c s′ i) ≡ true → Dec (k ≡ i) → linkBounded c s′ k m ≡ true
-      link k m l n h (yes p) = rw p (every-at 8 (linkBounded c s′ i) m h n)
-      link k m l n h (no p) =
-          let a : length (linkAt s k m) ≤ places c k m = leb-true _ _ (v .links k m l n) in
-          le-leb (length (linkAt s′ k m)) (places c k m) (omega (arith, rows k m p))
 
   own : Bounds c s′ → localBounds c s′ i ≡ true
   unfolding localBounds

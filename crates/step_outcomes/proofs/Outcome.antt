@@ -5,7 +5,6 @@ use mathlib.Core.Logic.{_≢_}
 use mathlib.Core.Bool.{Bool, true, false, not, _&&_}
 use mathlib.Core.List.{List, [], _∷_}
 use native.Mathlib.Omega.{arith}
-use native.Mathlib.Decide.{ℕ-discrete}
 use lib.Dec.{leb}
 use lib.ListN.{getD, length}
 use borrow.Author.Tests.{le-leb, lt-leb, ltb-true}
@@ -16,13 +15,13 @@ use Rattle.reset.proofs.ConfigLaws.{Rules, rules}
 use Rattle.reset.specs.Clock.{vector}
 use Rattle.reset.specs.State.{Item, message, Station, State, stationAt, linkAt, doneSeen, sentTo, setStation, setLink}
 use Rattle.reset.specs.Steps.{enter, send, recv, start, modeAfter, Outcome, refuse, guard, inBounds, bounded, doEnter, doSend, doReceive, doMark, doStart, settle, maySend, isNormal, beginReset, turn, receive, step}
-use Rattle.reset.proofs.Views.{station-set, station-set-link, link-set, link-set-row, link-set-col}
+use Rattle.reset.proofs.Views.{station-set, station-set-link, link-set-row}
 use Rattle.reset.specs.WellFormed.{countsFit, itemFits, itemFitsAt, linkFits, wellFormed}
-use Rattle.reset.proofs.Formed.{Formed, formed-of}
+use Rattle.reset.proofs.Formed.{Formed, formed-of, counts-small, station-counts, formed-bounds}
+use Rattle.reset.proofs.Bounds.{Bounds}
 use Rattle.reset_rules.specs.Turn.{Turning, turned, started, putItems}
 use Rattle.reset_rules.proofs.TurnLaws.{set-link-set, turn-set, start-set}
-use Rattle.step_outcomes.proofs.Local.{Bounds}
-use Rattle.step_outcomes.proofs.Formed.{counts-small, station-counts, formed-bounds}
+use Rattle.step_outcomes.proofs.Local.{taken-shorter}
 use Rattle.step_outcomes.proofs.Entries.{enter-bounds, receive-bounds, send-bounds}
 use Rattle.step_outcomes.proofs.Control.{roomFor, turned-within, started-within, control-bounds, station-put-items}
 
@@ -109,25 +108,21 @@ module _ (c : Config) (s : State vector) (w : wellFormed c s ≡ true) where
             send-left : step c s (send i j g) ≡ bounded c s (doSend i j g s)
             send-left = send-allowed ∙ passes _ 6 _ (lt-leb _ _ u)
 
-            room : Bool
+            abbrev room : Bool
             room = leb (suc (getD (stationAt s i .time) i 0)) (c .t) && leb (suc (length (linkAt s i j))) (places c i j)
 
             send-bounded : inBounds c (doSend i j g s .after) ≡ room
-            unfolding room
             send-bounded = send-bounds c s inside i (station-small i h) j g (neighbour-small i j n)
 
             pub send-full : c .t ≤ getD (stationAt s i .time) i 0 → step c s (send i j g) ≡ refuse s 9
-            unfolding room
             send-full f = send-left ∙ beyond (doSend i j g s) room send-bounded (rw (lt-leb (suc (getD (stationAt s i .time) i 0)) (c .t) (omega arith)))
 
             pub send-no-room : getD (stationAt s i .time) i 0 < c .t → places c i j ≤ length (linkAt s i j) → step c s (send i j g) ≡ refuse s 9
-            unfolding room
             send-no-room f r =
                 send-left ∙ beyond (doSend i j g s) room send-bounded
                 (rw (le-leb (suc (getD (stationAt s i .time) i 0)) (c .t) (omega arith), lt-leb (suc (length (linkAt s i j))) (places c i j) (omega arith)))
 
             pub send-done : getD (stationAt s i .time) i 0 < c .t → length (linkAt s i j) < places c i j → step c s (send i j g) ≡ doSend i j g s
-            unfolding room
             send-done f r =
                 send-left ∙ within (doSend i j g s) room send-bounded
                 (rw (le-leb (suc (getD (stationAt s i .time) i 0)) (c .t) (omega arith), le-leb (suc (length (linkAt s i j))) (places c i j) (omega arith)))
@@ -138,27 +133,18 @@ module _ (c : Config) (s : State vector) (w : wellFormed c s ≡ true) where
       (rows : (a b : ℕ) → a ≢ i → length (linkAt s₁ a b) ≤ length (linkAt s a b))
       (small : (k : ℕ) → k < 8 → getD (u .station .time) k 0 ≤ c .t) where
     -- the answer and the state that the rules lead to
-    pub after : State vector
-    after = putItems c (setStation s₁ i (u .station)) i (u .items)
-
-    pub turning : Outcome vector
+    abbrev turning : Outcome vector
     turning = record { answer = modeAfter i (u .station .mode) (u .station .phase); after = putItems c (setStation s₁ i (u .station)) i (u .items) }
-
-    test : Bool
-    test = leb (u .station .phase) 999999 && roomFor c s i (length (u .items))
 
     module _ (t : State vector) (e : turn c i t ≡ putItems c (setStation s₁ i (u .station)) i (u .items)) where
       settled : settle c i t ≡ turning
-      unfolding turning
       settled = rw (e, station-put-items c i (setStation s₁ i (u .station)) (u .items) i, station-set s₁ i (u .station))
 
       pub control-refused : (leb (u .station .phase) 999999 && roomFor c s i (length (u .items))) ≡ false → bounded c s (settle c i t) ≡ refuse s 9
-      unfolding turning
       control-refused h =
           beyond (settle c i t) _ (ap (inBounds c) (ap (λ (o : Outcome vector). o .after) settled) ∙ control-bounds c s s₁ inside i il stations out rows (u .station) small (u .items)) h
 
       pub control-done : (leb (u .station .phase) 999999 && roomFor c s i (length (u .items))) ≡ true → bounded c s (settle c i t) ≡ turning
-      unfolding turning
       control-done h =
           within (settle c i t) _ (ap (inBounds c) (ap (λ (o : Outcome vector). o .after) settled) ∙ control-bounds c s s₁ inside i il stations out rows (u .station) small (u .items)) h ∙ settled
 
@@ -192,7 +178,6 @@ module _ (c : Config) (s : State vector) (w : wellFormed c s ≡ true) where
 
           pub start-done : (leb (begins .station .phase) 999999 && roomFor c s i (length (begins .items))) ≡ true
               → step c s (start i) ≡ record { answer = modeAfter i (begins .station .mode) (begins .station .phase); after = putItems c (setStation s i (begins .station)) i (begins .items) }
-          unfolding turning
           start-done t =
               start-left
               ∙ control-done i (station-small i h) s (stationAt s i) begins (λ k. refl) (λ b. refl) (λ a b n. omega arith) small-begins (beginReset c i s) (start-set c i s) t
@@ -241,31 +226,22 @@ module _ (c : Config) (s : State vector) (w : wellFormed c s ≡ true) where
           abbrev turns : Turning vector
           turns = turned c i x
 
-          s₁ : State vector
+          abbrev s₁ : State vector
           s₁ = setLink s j i q
 
           out : (b : ℕ) → linkAt s₁ i b ≡ linkAt s i b
-          unfolding s₁
           out b = link-set-row s j i q i b (λ p. apart i j n (sym p))
 
           rows : (a b : ℕ) → a ≢ i → length (linkAt s₁ a b) ≤ length (linkAt s a b)
-          unfolding s₁
-          rows a b m = go (ℕ-discrete a j) (ℕ-discrete b i)
-            where
-              go : Dec (a ≡ j) → Dec (b ≡ i) → length (linkAt (setLink s j i q) a b) ≤ length (linkAt s a b)
-              go (yes p) (yes r) = rw (p, r, link-set s j i q, e) (omega arith)
-              go (yes p) (no r) = rw (p, link-set-col s j i q b r) (omega arith)
-              go (no p) r = rw (link-set-row s j i q a b p) (omega arith)
+          rows a b m = taken-shorter s j i y q e a b
 
           small-turns : (k : ℕ) → k < 8 → getD (turns .station .time) k 0 ≤ c .t
           small-turns = turned-within c i x (λ k l. rw time (station-counts c i (stationAt s i) (facts .station i (station-small i h)) k l))
 
           leads : turn c i (setLink (setStation s i x) j i q) ≡ putItems c (setStation s₁ i (turns .station)) i (turns .items)
-          unfolding s₁
           leads = ap (turn c i) (set-link-set s j i i q x) ∙ turn-set c i (setLink s j i q) x
 
           stays : (k : ℕ) → stationAt s₁ k ≡ stationAt s k
-          unfolding s₁
           stays k = station-set-link s j i q k
 
           pub mark-refused : (leb (turns .station .phase) 999999 && roomFor c s i (length (turns .items))) ≡ false → step c s (recv i j) ≡ refuse s 9
@@ -275,6 +251,5 @@ module _ (c : Config) (s : State vector) (w : wellFormed c s ≡ true) where
           pub mark-done : (leb (turns .station .phase) 999999 && roomFor c s i (length (turns .items))) ≡ true
               → step c s (recv i j)
               ≡ record { answer = modeAfter i (turns .station .mode) (turns .station .phase); after = putItems c (setStation (setLink s j i q) i (turns .station)) i (turns .items) }
-          unfolding turning s₁
           mark-done t =
               recv-left ∙ rw e (marks ∙ control-done i (station-small i h) s₁ x turns stays out rows small-turns (setLink (setStation s i x) j i q) leads t)

@@ -15,7 +15,7 @@ use Rattle.reset.specs.State.{Item, message, Station, State, stationAt, linkAt,
 use Rattle.reset.proofs.Views.{link-set-row}
 use Rattle.reset.specs.Steps.{recv, start, isNormal, receive, receiving, bounded, doMark, entryOf, entry}
 use Rattle.reset.specs.WellFormed.{wellFormed}
-use Rattle.reset.proofs.Formed.{formed-of}
+use Rattle.reset.proofs.Formed.{formed-of, formed-bounds}
 use Rattle.header.specs.Header.{parseHeader, tableAt}
 use Rattle.header.specs.declared.Header.{Header}
 use Rattle.rules.specs.Setup.{headerConfig}
@@ -24,7 +24,6 @@ use Rattle.reset_rules.specs.Slots.{turnedView}
 use Rattle.reset_rules.specs.declared.Turned.{Turned}
 use Rattle.reset_rules.proofs.TurnLaws.{set-link-set}
 use Rattle.step_outcomes.proofs.Control.{roomFor}
-use Rattle.step_outcomes.proofs.Formed.{formed-bounds}
 use Rattle.step_outcomes.proofs.Outcome as outcome
 use Rattle.area.specs.Layout.{image, linkBytes, configAt, stateAt, test}
 use Rattle.area.proofs.Formed.{imaged}
