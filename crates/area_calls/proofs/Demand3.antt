@@ -2,11 +2,10 @@
 use Prim.Native.Nat.{ℕ}
 use mathlib.Core.Path.{_≡_, refl, ap}
 use mathlib.Core.List.{List, [], _∷_}
-use mathlib.Core.Bool.{Bool, true, false, cond}
+use mathlib.Core.Bool.{true}
 use native.Mathlib.Omega.{arith}
 use lib.Dec.{eqb}
 use lib.ListN.{length}
-use Rattle.codec.specs.Written.{Written}
 use Rattle.header.specs.Header.{wellMadeHeader}
 use Rattle.reset.specs.Config.{Config, networkRules}
 use Rattle.reset.specs.Clock.{vector}
@@ -23,6 +22,7 @@ use Rattle.area.specs.Layout.{image}
 use Rattle.area.proofs.Formed.{imaged as images, config-back, state-back, image-passes}
 use Rattle.area_calls.specs.Calls.{setupOn, imaged, stepOn}
 use Rattle.area_calls.specs.Sound.{logOn, takensOn, Demand3}
+use Rattle.reset.proofs.Cases.{by-test}
 
 -- a step on the image of a well-formed state is the image of the network's step
 pub step-on-image : (c : Config) (s : State vector) → wellFormed c s ≡ true → (p : Step) → stepOn p (image c s) ≡ imaged c (step c s p)
@@ -45,33 +45,19 @@ module _ (c : Config) where
       (ap (withTaken (step c s p .answer) (taken s p)) (takens-on-image (step c s p .after) (step-well-formed c s w p (f .0)) ps (f .1)))
 
 -- what setup accepts
-pub accepted : (block a : List ℕ) → setupOn block a .answer ≡ 0
+pub setup-accepts : (block a : List ℕ) → setupOn block a .answer ≡ 0
     → (wellMadeHeader block ≡ true) × (networkRules (blockConfig block) ≡ true) × (setupOn block a .buffer ≡ image (blockConfig block) (initial vector (blockConfig block)))
 unfolding setupOn
-accepted block a h = long (eqb (length a) 65536) h
-  where
-    W : Bool → Bool → Bool → Written
-    W x y z =
-        cond x
-        (cond y
-        (cond z (record { answer = 0; buffer = image (blockConfig block) (initial vector (blockConfig block)) }) (record { answer = 3; buffer = a }))
-        (record { answer = 1; buffer = a }))
-        (record { answer = 11; buffer = a })
-
-    long : (x : Bool) → W x (wellMadeHeader block) (networkRules (blockConfig block)) .answer ≡ 0
-        → (wellMadeHeader block ≡ true) × (networkRules (blockConfig block) ≡ true)
-        × (W x (wellMadeHeader block) (networkRules (blockConfig block)) .buffer ≡ image (blockConfig block) (initial vector (blockConfig block)))
-    long false h = absurd (omega arith)
-    long true h = made (wellMadeHeader block) (networkRules (blockConfig block)) h
-      where
-        made : (y z : Bool) → W true y z .answer ≡ 0 → (y ≡ true) × (z ≡ true) × (W true y z .buffer ≡ image (blockConfig block) (initial vector (blockConfig block)))
-        made false z h = absurd (omega arith)
-        made true false h = absurd (omega arith)
-        made true true h = (refl, refl, refl)
+setup-accepts block a h =
+    by-test (eqb (length a) 65536)
+    (λ x. by-test (wellMadeHeader block)
+    (λ y. by-test (networkRules (blockConfig block)) (λ z. (y, z, rw (x, y, z))) (λ z. let e : _≡_ {A = ℕ} 3 0 = rw (x, y, z) at h in absurd (omega arith)))
+    (λ y. let e : _≡_ {A = ℕ} 1 0 = rw (x, y) at h in absurd (omega arith)))
+    (λ x. let e : _≡_ {A = ℕ} 11 0 = rw x at h in absurd (omega arith))
 
 pub demand3-over-areas : Demand3
 demand3-over-areas block a b h ps f =
-    let p = accepted block a h in
+    let p = setup-accepts block a h in
     let c = blockConfig block in
     let m = accepted-well-made block b (p .0) in
     let w = initial-well-formed c m (p .1) in

@@ -12,11 +12,10 @@ use Rattle.reset.specs.Network.{initial, log}
 use Rattle.causality.specs.Plain.{plainInitial, plainTold}
 use Rattle.causality.specs.HappenedBefore.{accepted}
 use Rattle.causality.specs.Sound.{takens, Sound, Demand3}
-use Rattle.causality.proofs.SoundLaws.{takens-long, fed-entries}
 use Rattle.causality.proofs.Trace.{Trace}
 use Rattle.causality.proofs.TraceOrder.{as-sent, by-timestamp}
 use Rattle.causality.proofs.TracePlain.{plain-tells, plain-stands}
-use Rattle.causality.proofs.History.{run-history}
+use Rattle.causality.proofs.History.{run-history, takens-long, fed-entries}
 use Rattle.causality.proofs.Phases.{none-under-way}
 
 module _ (c : Config) (u : Rules c) (ps : List Step) where

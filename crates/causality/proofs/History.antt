@@ -2,7 +2,7 @@
 use Prim.Native.Nat.{ℕ, zero, suc, _+_, _≤_, _<_}
 use mathlib.Core.Path.{_≡_, refl, sym, ap, _∙_}
 use mathlib.Core.List.{List, [], _∷_, _++_, append-nil, map, map-append}
-use mathlib.Core.Bool.{Bool, true, false, _&&_, and-false, true≢false}
+use mathlib.Core.Bool.{true, false, _&&_, and-false}
 use native.Mathlib.Omega.{arith}
 use native.Mathlib.Decide.{ℕ-discrete}
 use lib.Dec.{eqb}
@@ -15,17 +15,17 @@ use Rattle.reset.proofs.ConfigLaws.{Rules}
 use Rattle.reset.specs.Clock.{vector}
 use Rattle.reset.specs.State.{Mode, Station, State, stationAt}
 use Rattle.reset.specs.Steps.{Step, enter, send, recv, start, Answer, refused, entry, modeAfter, step}
-use Rattle.reset.specs.Network.{initial, log, run}
+use Rattle.reset.specs.Network.{initial, log, run, Answered}
 use Rattle.reset.proofs.Changes.{Tagged, waiting, sentOn, firstWith, gotOn, Move, stays, renews, Quiet, How, Enters, Summary}
 use Rattle.reset.proofs.Invariant.{Invariant}
 use Rattle.reset.proofs.Summary.{step-keeps, summary}
 use Rattle.reset.proofs.Initial.{initial-station, initial-waiting, initial-invariant}
-use Rattle.causality.specs.Plain.{Message}
+use Rattle.causality.specs.Plain.{Message, ofPhase, fed}
 use Rattle.causality.specs.HappenedBefore.{Accepted, withEntry, accepted, noEntry, entryAt, phaseOf, timestampOf, isSend, isRecv, count, GoesWith}
 use Rattle.causality.specs.Sound.{firstMessage, taken, withTaken, takens}
-use Rattle.causality.proofs.Trace.{recordStation, isOf, lastOf, countsBefore, those, underWay, Follows, own, sent, received}
+use Rattle.causality.proofs.Trace.{recordStation, isOf, lastOf, countsBefore, those, underWay, Follows, own, sent, received, fedOf}
 use Rattle.causality.proofs.TraceLaws.{drop-head, those-length, Nth, those-nth, fewer, stays-under-way, sent-under-way, first-under-way}
-use Rattle.reset.proofs.Cases.{by-test, by-dec}
+use Rattle.reset.proofs.Cases.{by-test, by-dec, clash}
 
 -- a send's message as a link has it, with the phase that it was sent in
 abbrev pub tagOf : Accepted → Tagged vector
@@ -134,8 +134,7 @@ module _ (c : Config) (E : List Accepted) (T : List (List Message)) (s s′ : St
     new-follows : (p : Step) → entryAt E m .step ≡ p → Way p → Follows E T m
     new-follows (enter i g) e w =
         own g (e ∙ ap (λ (k : ℕ). enter k g) (sym (w .station-is))) (te ∙ ap (taken s) e) (ticked i (w .station-is) (w .time-is))
-    new-follows (send i j g) e w =
-        sent j (rw (w .station-is, w .register-is) e) (te ∙ ap (taken s) e) (ticked i (w .station-is) (w .time-is))
+    new-follows (send i j g) e w = sent j (rw (w .station-is, w .register-is) e) (te ∙ ap (taken s) e) (ticked i (w .station-is) (w .time-is))
     new-follows (recv i j) e w =
         let (x, xl, sx, nx, tx, rest) = origin i j e w in
         let g : GoesWith E x m = record { a = j; b = i; x-in = omega arith; y-in = ml; sent = sx; received = is-from i j e; same-number = nx } in
@@ -167,37 +166,31 @@ module _ (c : Config) (E : List Accepted) (T : List (List Message)) (s s′ : St
     new-links : (p : Step) → entryAt E m .step ≡ p → Way p → (a b : ℕ) → neighbours c a b ≡ true
         → map tagOf (underWay E a b (suc m)) ≡ waiting s′ a b
     new-links (enter i g) e w a b n = unmoved a b n (rw e) (rw e) (rw e) (rw e)
-    new-links (send i j g) e w a b n = go (eqb i a && eqb j b) refl
-      where
-        go : (t : Bool) → (eqb i a && eqb j b) ≡ t → map tagOf (underWay E a b (suc m)) ≡ waiting s′ a b
-        go false t = unmoved a b n (rw (e, t)) (rw e) (rw (e, t)) (rw e)
-        go true t =
-            let one : sentOn s a b (entryAt E m .step) ≡ tagOf (entryAt E m) ∷ [] =
-            ap (sentOn s a b) e ∙ rw t (ap {B = List (Tagged vector)} (λ x. x ∷ []) (sent-tag i j g w)) in
-            ap (map tagOf) (sent-under-way E a b m (rw (e, t)) (rw e) (fewer E T a b m (h .follows))) ∙ map-append tagOf (underWay E a b m) _
-            ∙ ap (λ (l : List (Tagged vector)). l ++ (tagOf (entryAt E m) ∷ [])) (h .links a b n) ∙ ap (λ (l : List (Tagged vector)). waiting s a b ++ l) (sym one)
-            ∙ en .log a b n ∙ ap (λ (l : List (Tagged vector)). l ++ waiting s′ a b) (ap (gotOn s a b) e)
-    new-links (recv i j) e w a b n = go (eqb j a && eqb i b) refl
-      where
-        go : (t : Bool) → (eqb j a && eqb i b) ≡ t → map tagOf (underWay E a b (suc m)) ≡ waiting s′ a b
-        go false t = unmoved a b n (rw e) (rw (e, t)) (rw e) (rw (e, t))
-        go true t =
-            let k = both (eqb j a) _ t in
-            let (x, xl, sx, nx, tx, rest) = origin i j e w in
-            rw (← eqb-true j a (k .0), ← eqb-true i b (k .1)) rest
+    new-links (send i j g) e w a b n =
+        by-test (eqb i a && eqb j b)
+        (λ t. let one : sentOn s a b (entryAt E m .step) ≡ tagOf (entryAt E m) ∷ [] =
+        ap (sentOn s a b) e ∙ rw t (ap {B = List (Tagged vector)} (λ x. x ∷ []) (sent-tag i j g w)) in
+        ap (map tagOf) (sent-under-way E a b m (rw (e, t)) (rw e) (fewer E T a b m (h .follows))) ∙ map-append tagOf (underWay E a b m) _
+        ∙ ap (λ (l : List (Tagged vector)). l ++ (tagOf (entryAt E m) ∷ [])) (h .links a b n) ∙ ap (λ (l : List (Tagged vector)). waiting s a b ++ l) (sym one)
+        ∙ en .log a b n ∙ ap (λ (l : List (Tagged vector)). l ++ waiting s′ a b) (ap (gotOn s a b) e))
+        (λ t. unmoved a b n (rw (e, t)) (rw e) (rw (e, t)) (rw e))
+    new-links (recv i j) e w a b n =
+        by-test (eqb j a && eqb i b)
+        (λ t. let k = both (eqb j a) _ t in
+        let (x, xl, sx, nx, tx, rest) = origin i j e w in
+        rw (← eqb-true j a (k .0), ← eqb-true i b (k .1)) rest)
+        (λ t. unmoved a b n (rw e) (rw (e, t)) (rw e) (rw (e, t)))
     new-links (start i) e w a b n = absurd w
 
     new-unlinked : (p : Step) → entryAt E m .step ≡ p → Way p → (a b : ℕ) → neighbours c a b ≡ false
         → isSend a b (entryAt E m .step) ≡ false
     new-unlinked (enter i g) e w a b n = rw e
-    new-unlinked (send i j g) e w a b n = rw e (go (eqb i a && eqb j b) refl)
-      where
-        go : (t : Bool) → (eqb i a && eqb j b) ≡ t → t ≡ false
-        go false t = refl
-        go true t =
-            let k = both (eqb i a) _ t in
-            let l : neighbours c a b ≡ true = rw (← eqb-true i a (k .0), ← eqb-true j b (k .1)) (w .linked) in
-            absurd (true≢false (sym l ∙ n))
+    new-unlinked (send i j g) e w a b n =
+        rw e
+        (by-test (eqb i a && eqb j b)
+        (λ t. let k = both (eqb i a) _ t in
+        let l : neighbours c a b ≡ true = rw (← eqb-true i a (k .0), ← eqb-true j b (k .1)) (w .linked) in
+        clash (sym l ∙ n)) (λ t. t))
     new-unlinked (recv i j) e w a b n = rw e
     new-unlinked (start i) e w a b n = rw e
 
@@ -281,3 +274,24 @@ pub run-history : (c : Config) → Rules c → (ps : List Step)
 run-history c u ps =
     all-steps c u _ _ (initial vector c) (initial-invariant vector c u) ps 0
     (record { history = initial-history c u _ _; entries = refl; messages = refl; number = omega arith })
+
+-- ---- the entries beside the messages taken, and what the plain network is fed
+-- there is a message list for each entry
+pub takens-long : (c : Config) (s : State vector) (ps : List Step) → length (takens c s ps) ≡ length (accepted (log c s ps))
+takens-long c s [] = refl
+takens-long c s (p ∷ ps) = go (step c s p .answer) (takens c (step c s p .after) ps) (accepted (log c (step c s p .after) ps)) (takens-long c (step c s p .after) ps)
+  where
+    go : (a : Answer) (T : List (List Message)) (E : List Accepted) → length T ≡ length E → length (withTaken a (taken s p) T) ≡ length (withEntry p a E)
+    go (refused k) T E h = h
+    go (entry e) T E h = ap suc h
+    go (modeAfter i m f) T E h = h
+
+-- what the plain network is fed for a phase is read off the entries
+pub fed-entries : (f : ℕ) (l : List Answered) → fed f l ≡ fedOf f (accepted l)
+fed-entries f [] = refl
+fed-entries f (x ∷ l) = go (x .answer) (fed-entries f l)
+  where
+    go : (a : Answer) → fed f l ≡ fedOf f (accepted l) → ofPhase f a (x .step) (fed f l) ≡ fedOf f (withEntry (x .step) a (accepted l))
+    go (refused k) h = h
+    go (entry e) h = rw h
+    go (modeAfter i m p) h = h

@@ -4,7 +4,6 @@ pub mod Trace
 pub mod TraceLaws
 pub mod TraceOrder
 pub mod TracePlain
-pub mod SoundLaws
 pub mod History
 pub mod Phases
 pub mod Demand3

@@ -16,8 +16,7 @@ use Rattle.reset.specs.Steps.{Step, stationOfStep, Answer, refused, entry, mode
 use Rattle.reset.specs.Network.{initial, log, run}
 use Rattle.reset.specs.Bears.{Taker}
 use Rattle.reset.proofs.StepLaws.{answers-taker}
-use Rattle.reset.proofs.Progress.{asked}
-use Rattle.reset.proofs.Changes.{Tagged, tags, Summary}
+use Rattle.reset.proofs.Changes.{reqsTaken, Tagged, tags, Summary}
 use Rattle.reset.proofs.Invariant.{Invariant}
 use Rattle.reset.proofs.Summary.{step-keeps, summary}
 use Rattle.reset.proofs.Initial.{initial-station, initial-invariant}
@@ -76,5 +75,5 @@ module _ (c : Config) (u : Rules c) (ps : List Step) where
       by-test (neighbours c a b)
       (λ n. let l = u .inside a b n in
       let h : f < stationAt s b .phase = rw (← phase-after vector c u b l ps) (left b l) in
-      none-below f (underWay E a b (length E)) (asked (stationAt s b) a) (linkAt s a b) (run-history c u ps .links a b n) (omega arith))
+      none-below f (underWay E a b (length E)) (reqsTaken (stationAt s b) a) (linkAt s a b) (run-history c u ps .links a b n) (omega arith))
       (λ n. ap (messagesOf f) (ap (drop (count (isRecv a b) E (length E))) (run-history c u ps .unlinked a b n) ∙ drop-nil (count (isRecv a b) E (length E))))

@@ -4,7 +4,7 @@ use Prim.Native.Nat.{ℕ, suc, _+_, _<_}
 use mathlib.Core.Path.{_≡_, refl, sym, ap, _∙_}
 use mathlib.Core.Logic.{_≢_}
 use mathlib.Core.List.{List, [], _∷_, _++_, append-nil}
-use mathlib.Core.Bool.{Bool, true, false, cond, _&&_}
+use mathlib.Core.Bool.{true, cond, _&&_}
 use native.Mathlib.Omega.{arith}
 use lib.Dec.{eqb}
 use lib.ListN.{getD, drop, length}
@@ -27,8 +27,7 @@ messagesOf f (x ∷ l) = cond (eqb (x .entry .phase) f) (sentMessage x ∷ messa
 
 messages-append : (f : ℕ) (l m : List Accepted) → messagesOf f (l ++ m) ≡ messagesOf f l ++ messagesOf f m
 messages-append f [] m = refl
-messages-append f (x ∷ l) m =
-    by-test (eqb (x .entry .phase) f) (λ t. rw (t, messages-append f l m)) (λ t. rw (t, messages-append f l m))
+messages-append f (x ∷ l) m = by-test (eqb (x .entry .phase) f) (λ t. rw (t, messages-append f l m)) (λ t. rw (t, messages-append f l m))
 
 -- ---- the plain network after the first m entries
 pub record Stands (E : List Accepted) (f m : ℕ) (P : Plain) : Type 0 where
@@ -52,11 +51,7 @@ module _ (E : List Accepted) (T : List (List Message)) (R : Trace E T) (f : ℕ)
       (λ hs. ap (messagesOf f) (stays-under-way E a b m hs hr)))
 
   skip : (m : ℕ) (P : Plain) → m < length E → phaseOf E m ≢ f → Stands E f m P → Stands E f (suc m) P
-  skip m P l n h =
-      record {
-        counts = λ i. rw (ne-eqb (phaseOf E m) f n) (h .counts i);
-        queues = λ a b. h .queues a b ∙ sym (skipped m l n a b);
-      }
+  skip m P l n h = record { counts = λ i. rw (ne-eqb (phaseOf E m) f n) (h .counts i); queues = λ a b. h .queues a b ∙ sym (skipped m l n a b) }
 
   -- an entry of phase f: the plain network does the same
   abbrev Does : ℕ → Plain → Type 0
@@ -87,17 +82,15 @@ module _ (E : List Accepted) (T : List (List Message)) (R : Trace E T) (f : ℕ)
         record { counts = at₁ (P .counts) i v; queue = at₂ (P .queue) i j (P .queue i j ++ (record { counts = v; register = entryAt E m .entry .register } ∷ [])) } in (
           after (timestampOf E m),
           rw (e, t) (ap (λ (v : List ℕ). gives v [] (after v)) (ap (tick i) before ∙ sym z)),
-          record { counts = counted; queues = λ a b. go a b (eqb i a && eqb j b) refl },
+          record {
+            counts = counted;
+            queues = λ a b. by-test (eqb i a && eqb j b)
+                (λ c. let k = both (eqb i a) _ c in
+                let u = sent-under-way E a b m (rw (e, c)) (rw e) (fewer E T a b m (λ y yl. R .follows y (omega arith))) in
+                rw (c, u, eqb-true i a (k .0), eqb-true j b (k .1), h .queues a b) (sym (messages-append f (underWay E a b m) _ ∙ rw (eq-eqb (phaseOf E m) f p))))
+                (λ c. rw c (h .queues a b ∙ sym (ap (messagesOf f) (stays-under-way E a b m (rw (e, c)) (rw e)))));
+          },
         )
-      where
-        go : (a b : ℕ) (c : Bool) → (eqb (recordStation E m) a && eqb j b) ≡ c
-            → cond c (P .queue (recordStation E m) j ++ (sentMessage (entryAt E m) ∷ [])) (P .queue a b) ≡ messagesOf f (underWay E a b (suc m))
-        go a b true c =
-            let k = both (eqb (recordStation E m) a) _ c in
-            let u = sent-under-way E a b m (rw (e, c)) (rw e) (fewer E T a b m (λ y yl. R .follows y (omega arith))) in
-            rw (u, eqb-true (recordStation E m) a (k .0), eqb-true j b (k .1), h .queues a b)
-            (sym (messages-append f (underWay E a b m) _ ∙ rw (eq-eqb (phaseOf E m) f p)))
-        go a b false c = h .queues a b ∙ sym (ap (messagesOf f) (stays-under-way E a b m (rw (e, c)) (rw e)))
 
     does-receive : (j x : ℕ) → entryAt E m .step ≡ recv (recordStation E m) j → x < m → GoesWith E x m → phaseOf E x ≡ phaseOf E m
         → getD T m [] ≡ sentMessage (entryAt E x) ∷ [] → timestampOf E m ≡ raised (recordStation E m) (countsBefore E m) (timestampOf E x) → Does m P
@@ -110,7 +103,12 @@ module _ (E : List Accepted) (T : List (List Message)) (R : Trace E T) (f : ℕ)
           ap (plainStep P) e ∙ ap (plainTake i j P) first
               ∙ ap (λ (v : List ℕ). gives v (sentMessage (entryAt E x) ∷ []) (after v)) (ap (λ (v : List ℕ). raised i v (timestampOf E x)) before ∙ sym z)
               ∙ ap (λ (r : List Message). gives (timestampOf E m) r (after (timestampOf E m))) (sym t),
-          record { counts = counted; queues = λ a b. go a b (eqb j a && eqb i b) refl },
+          record {
+            counts = counted;
+            queues = λ a b. by-test (eqb j a && eqb i b)
+                (λ c. let k = both (eqb j a) _ c in rw (c, eqb-true j a (k .0), eqb-true i b (k .1)))
+                (λ c. rw c (h .queues a b ∙ sym (ap (messagesOf f) (stays-under-way E a b m (rw e) (rw (e, c))))));
+          },
         )
       where
         taken : (a b : ℕ) → isRecv a b (entryAt E m .step) ≡ true → underWay E a b m ≡ entryAt E x ∷ underWay E a b (suc m)
@@ -120,11 +118,6 @@ module _ (E : List Accepted) (T : List (List Message)) (R : Trace E T) (f : ℕ)
         first =
             h .queues j (recordStation E m) ∙ ap (messagesOf f) (taken j (recordStation E m) (rw (e, eq-eqb j j refl, eq-eqb (recordStation E m) (recordStation E m) refl)))
             ∙ rw (eq-eqb (phaseOf E x) f (q ∙ p))
-
-        go : (a b : ℕ) (c : Bool) → (eqb j a && eqb (recordStation E m) b) ≡ c
-            → cond c (messagesOf f (underWay E j (recordStation E m) (suc m))) (P .queue a b) ≡ messagesOf f (underWay E a b (suc m))
-        go a b true c = let k = both (eqb j a) _ c in rw (eqb-true j a (k .0), eqb-true (recordStation E m) b (k .1))
-        go a b false c = h .queues a b ∙ sym (ap (messagesOf f) (stays-under-way E a b m (rw e) (rw (e, c))))
 
     does : Follows E T m → Does m P
     does (own g e t z) = does-own g e t z

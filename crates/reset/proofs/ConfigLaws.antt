@@ -1,7 +1,7 @@
 -- What a well-made header, and one that keeps the network rules, says of its stations and links. Assumes nothing.
 use Prim.Native.Nat.{ℕ, _≤_, _<_}
 use mathlib.Core.Path.{_≡_, sym}
-use mathlib.Core.Logic.{_↔_}
+use mathlib.Core.Logic.{_≢_, _↔_}
 use mathlib.Core.List.{[]}
 use mathlib.Core.Bool.{true, _&&_, and-false}
 use native.Mathlib.Omega.{arith}
@@ -13,7 +13,7 @@ use Rattle.codec.specs.Every.{every}
 use Rattle.codec.proofs.EveryLaws.{both, every-at}
 use Rattle.reset.specs.Reach.{limit, linked, Reached, everyReached}
 use Rattle.reset.proofs.ReachLaws.{test-reached, reached-test}
-use Rattle.reset.specs.Config.{Config, neighbours, sizeFits, allowancesFit, limitFits, rowFits, limitsFit, wellMade, zeroAt, zeroDiagonal, bothOrNone, linkedBothWays, allowanceBelow, limitBelow, nothingAbove, networkRules}
+use Rattle.reset.specs.Config.{Config, isStation, neighbours, sizeFits, allowancesFit, limitFits, rowFits, limitsFit, wellMade, zeroAt, zeroDiagonal, bothOrNone, linkedBothWays, allowanceBelow, limitBelow, nothingAbove, networkRules}
 use Rattle.reset.proofs.Cases.{by-test, by-dec, clash}
 
 -- the ranges and lengths of a well-made header
@@ -119,10 +119,16 @@ module _ (c : Config) (h : wellMade c ≡ true) (r : networkRules c ≡ true) wh
 
   pub rules : Rules c
   unfolding neighbours
-  rules =
-      record {
-        both-ways = back;
-        loopless = alone;
-        inside = within-n;
-        small = shape c h .small;
-      }
+  rules = record { both-ways = back; loopless = alone; inside = within-n; small = shape c h .small }
+
+-- a station is below n, every neighbour is one of the eight, and no station is its own
+pub station-below : (c : Config) (i : ℕ) → isStation c i ≡ true → i < c .n
+unfolding isStation
+station-below c i h = ltb-true _ _ h
+
+module _ (c : Config) (u : Rules c) (i j : ℕ) (h : neighbours c i j ≡ true) where
+  pub neighbour-small : j < 8
+  neighbour-small = omega (arith, u .inside i j h, u .small)
+
+  pub not-itself : j ≢ i
+  not-itself e = u .loopless i (rw e at h)

@@ -7,24 +7,22 @@ use native.Mathlib.Omega.{arith}
 use native.Mathlib.Decide.{ℕ-discrete}
 use lib.Dec.{eqb, leb}
 use lib.ListN.{getD, length, replicate}
-use borrow.Author.Tests.{leb-true, le-leb, ltb-true}
+use borrow.Author.Tests.{leb-true, le-leb}
 use Rattle.codec.specs.Every.{every}
 use Rattle.codec.proofs.EveryLaws.{both, join, every-at, every-of}
 use Rattle.codec.proofs.Stride.{upto-at, upto-length}
 use Rattle.reset.specs.Config.{Config, isStation, neighbours, limitAt, allowanceAt, places, wellMade, networkRules}
-use Rattle.reset.proofs.ConfigLaws.{Rules, rules}
-use Rattle.reset.specs.Clock.{vector}
+use Rattle.reset.proofs.ConfigLaws.{Rules, rules, station-below, neighbour-small}
+use Rattle.reset.specs.Clock.{vector, Clock}
 use Rattle.reset.specs.State.{Item, message, resetReq, resetDone, Station, State, stationAt, linkAt, sentTo}
-use Rattle.reset.specs.Steps.{inBounds, Step, doEnter, sending, doSend, doReceive, doMark, doStart, step}
+use Rattle.reset.specs.Steps.{inBounds, Step, doEnter, sending, doSend, doReceive, doMark, doStart, step, phaseBounded, countBounded, linkBounded}
 use Rattle.reset.specs.Network.{initialStation, initial}
 use Rattle.reset.specs.WellFormed.{registerFits, ofStation, countFits, countsFit, modeFits, phaseFits, stationFits, itemFits, itemFitsAt, linkFits, shapeFits, stationFitsAt, linkFitsAt, wellFormed, stepFits}
 use Rattle.reset.proofs.Views.{zeros-at, station-set, station-set-link}
 use Rattle.reset.proofs.StepLaws.{of-step}
-use Rattle.reset.proofs.Keeps.{neighbour-small}
 use Rattle.reset.proofs.Initial.{initial-station, initial-link}
 use Rattle.reset.proofs.FormedParts.{counts-of, counts-fit, zeros-counts, zeros-sent, none-marks, Fits, fits-of, fits-back, fits-entered, fits-sending, fits-receiving, fits-req, fits-done, Shaped, shaped-of, shape-fits, ItemsFit, Parts, parts-station, parts-link, parts-put, parts-begin, parts-turn}
 use Rattle.reset.proofs.Cases.{by-test, by-dec}
-use Rattle.reset.proofs.Bounds.{Bounds, bounds}
 
 -- ---- the tests of a whole state as facts
 pub record Formed (c : Config) (s : State vector) : Type 0 where
@@ -70,7 +68,30 @@ module _ (c : Config) (i j : ℕ) (q : List (Item vector)) where
   unfolding linkFits
   link-fits l f = join (leb (length q) (places c i j)) _ l (every-of (length q) (itemFitsAt c q) (λ k kl. f k))
 
--- ---- in bounds
+-- ---- number 9's bounds, part by part
+pub record Bounds {K : Clock} (c : Config) (s : State K) : Type 0 where
+  pub phases : (i : ℕ) → i < 8 → phaseBounded s i ≡ true
+  pub counts : (i k : ℕ) → i < 8 → k < 8 → countBounded c s i k ≡ true
+  pub links : (i j : ℕ) → i < 8 → j < 8 → linkBounded c s i j ≡ true
+
+pub bounds : {K : Clock} (c : Config) (s : State K) → inBounds c s ≡ true → Bounds c s
+unfolding inBounds
+bounds c s h =
+    let a = both (every 8 (phaseBounded s)) _ h in
+    let b = both (every 8 (λ (i : ℕ). every 8 (countBounded c s i))) _ (a .1) in
+    record {
+      phases = λ i l. every-at 8 (phaseBounded s) i (a .0) l;
+      counts = λ i k l m. every-at 8 (countBounded c s i) k (every-at 8 (λ (i : ℕ). every 8 (countBounded c s i)) i (b .0) l) m;
+      links = λ i j l m. every-at 8 (linkBounded c s i) j (every-at 8 (λ (i : ℕ). every 8 (linkBounded c s i)) i (b .1) l) m;
+    }
+
+pub in-bounds : {K : Clock} (c : Config) (s : State K) → Bounds c s → inBounds c s ≡ true
+unfolding inBounds
+in-bounds c s b =
+    join _ _ (every-of 8 (phaseBounded s) (b .phases))
+    (join _ _ (every-of 8 (λ (i : ℕ). every 8 (countBounded c s i)) (λ i l. every-of 8 (countBounded c s i) (λ k m. b .counts i k l m)))
+    (every-of 8 (λ (i : ℕ). every 8 (linkBounded c s i)) (λ i l. every-of 8 (linkBounded c s i) (λ j m. b .links i j l m))))
+
 -- a bound of 0 for stations n and above is no more than the bound itself
 of-small : (c : Config) (i b x : ℕ) → x ≤ ofStation c i b → x ≤ b
 of-small c i b x h = by-test (isStation c i) (λ e. rw e at h) (λ e. let z : x ≤ 0 = rw e at h in omega arith)
@@ -111,8 +132,7 @@ module _ (c : Config) (s : State vector) (h : Formed c s) where
 
   module _ (i : ℕ) (si : isStation c i ≡ true) where
     below : i < 8
-    unfolding isStation
-    below = omega (arith, ltb-true i (c .n) si, header .small)
+    below = omega (arith, station-below c i si, header .small)
 
     parts : Parts c i s
     parts =
@@ -200,12 +220,7 @@ module _ (c : Config) where
 
   initial-shape : Shaped (initial vector c)
   unfolding initial
-  initial-shape =
-      record {
-        stations8 = upto-length 8 (initialStation vector c);
-        links8 = refl;
-        row8 = λ a l. row 8 a l;
-      }
+  initial-shape = record { stations8 = upto-length 8 (initialStation vector c); links8 = refl; row8 = λ a l. row 8 a l }
     where
       row : (n a : ℕ) → a < n → length (getD (replicate n (replicate {A = List (Item vector)} 8 [])) a []) ≡ 8
       row zero a l = absurd (omega arith)

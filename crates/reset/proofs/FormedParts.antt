@@ -212,11 +212,7 @@ unfolding shapeFits
 shaped-of s h =
     let p = both (eqb (length (s .stations)) 8) _ h in
     let q = both (eqb (length (s .links)) 8) _ (p .1) in
-    record {
-      stations8 = eqb-true _ _ (p .0);
-      links8 = eqb-true _ _ (q .0);
-      row8 = λ a l. eqb-true _ _ (every-at 8 (rowLong s) a (q .1) l);
-    }
+    record { stations8 = eqb-true _ _ (p .0); links8 = eqb-true _ _ (q .0); row8 = λ a l. eqb-true _ _ (every-at 8 (rowLong s) a (q .1) l) }
 
 pub shape-fits : (s : State vector) → Shaped s → shapeFits s ≡ true
 unfolding shapeFits

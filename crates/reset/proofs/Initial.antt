@@ -6,14 +6,13 @@ use mathlib.Core.Bool.{true, false}
 use lib.ListN.{getD, replicate}
 use Rattle.codec.proofs.Stride.{upto-at}
 use Rattle.reset.specs.Config.{Config, neighbours}
-use Rattle.reset.proofs.ConfigLaws.{Rules}
+use Rattle.reset.proofs.ConfigLaws.{Rules, neighbour-small}
 use Rattle.reset.specs.Clock.{Clock}
 use Rattle.reset.specs.State.{Item, blankStation, stationAt, linkAt, doneSeen}
 use Rattle.reset.specs.Network.{initialStation, initial}
 use Rattle.reset.proofs.Views.{all-same, none-at}
 use Rattle.reset.proofs.Changes.{waiting}
 use Rattle.reset.proofs.Invariant.{Invariant}
-use Rattle.reset.proofs.Keeps.{neighbour-small}
 
 module _ (K : Clock) (c : Config) where
   pub initial-station : (i : ℕ) → i < 8 → stationAt (initial K c) i ≡ initialStation K c i

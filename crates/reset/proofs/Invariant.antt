@@ -8,17 +8,16 @@ use mathlib.Core.Bool.{true}
 use native.Mathlib.Omega.{arith}
 use native.Mathlib.Decide.{ℕ-discrete}
 use Rattle.reset.specs.Config.{Config, neighbours}
-use Rattle.reset.proofs.ConfigLaws.{Rules}
+use Rattle.reset.proofs.ConfigLaws.{Rules, not-itself}
 use Rattle.reset.specs.Clock.{Clock}
 use Rattle.reset.specs.State.{normal, Item, Station, State, stationAt, linkAt, reqSeen, doneSeen}
-use Rattle.reset.proofs.Progress.{target, asked, settled}
-use Rattle.reset.proofs.Changes.{Tagged, tags, waiting}
+use Rattle.reset.proofs.Changes.{target, reqsTaken, donesTaken, Tagged, tags, waiting}
 use Rattle.reset.proofs.Flow.{Flow, flow-reqs, flow-dones, flow-up, flow-append, tags-append}
 use Rattle.reset.proofs.Cases.{by-dec}
 
 -- The items q of the link from station i, whose record is x, to a station with record y: from what y has taken to what x has put.
 abbrev pub Carries : {K : Clock} → ℕ → Station K → List (Item K) → Station K → Type 0
-Carries i x q y = Flow (y .phase) (asked y i) (settled y i) q (target x) (suc (x .phase))
+Carries i x q y = Flow (y .phase) (reqsTaken y i) (donesTaken y i) q (target x) (suc (x .phase))
 
 -- Every link carries what its two ends say, and a station in normal has seen every neighbour's done.
 pub record Invariant {K : Clock} (c : Config) (s : State K) : Type 0 where
@@ -50,8 +49,8 @@ pub record Puts {K : Clock} (c : Config) (i : ℕ) (s s′ : State K) (out : ℕ
   pub kept : (a b : ℕ) → a ≢ i → linkAt s′ a b ≡ linkAt s a b
   pub onto : (b : ℕ) → neighbours c i b ≡ true → linkAt s′ i b ≡ linkAt s i b ++ out b
   pub up : stationAt s i .phase ≤ stationAt s′ i .phase
-  pub head-reqs : (j : ℕ) → neighbours c i j ≡ true → asked (stationAt s′ i) j ≡ asked (stationAt s i) j
-  pub head-dones : (j : ℕ) → neighbours c i j ≡ true → settled (stationAt s′ i) j ≡ settled (stationAt s i) j
+  pub head-reqs : (j : ℕ) → neighbours c i j ≡ true → reqsTaken (stationAt s′ i) j ≡ reqsTaken (stationAt s i) j
+  pub head-dones : (j : ℕ) → neighbours c i j ≡ true → donesTaken (stationAt s′ i) j ≡ donesTaken (stationAt s i) j
   pub tail : (b : ℕ) → neighbours c i b ≡ true
       → Flow (stationAt s b .phase) (target (stationAt s i)) (suc (stationAt s i .phase)) (out b) (target (stationAt s′ i)) (suc (stationAt s′ i .phase))
   pub seen′ : (j : ℕ) → neighbours c i j ≡ true → stationAt s′ i .mode ≡ normal → doneSeen (stationAt s′ i) j ≡ true
@@ -109,17 +108,14 @@ pub record Takes {K : Clock} (c : Config) (i j : ℕ) (s s′ : State K) (x : It
   pub req-other : (k : ℕ) → k ≢ j → reqSeen (stationAt s′ i) k ≡ reqSeen (stationAt s i) k
   pub done-other : (k : ℕ) → k ≢ j → doneSeen (stationAt s′ i) k ≡ doneSeen (stationAt s i) k
   pub done-more : (k : ℕ) → doneSeen (stationAt s i) k ≡ true → doneSeen (stationAt s′ i) k ≡ true
-  pub messages : Carries j (stationAt s j) (x ∷ q) (stationAt s i) → tags (asked (stationAt s i) j) (x ∷ q) ≡ taken ++ tags (asked (stationAt s′ i) j) q
+  pub messages : Carries j (stationAt s j) (x ∷ q) (stationAt s i) → tags (reqsTaken (stationAt s i) j) (x ∷ q) ≡ taken ++ tags (reqsTaken (stationAt s′ i) j) q
   pub moved : Carries j (stationAt s j) (x ∷ q) (stationAt s i)
-      → Flow (stationAt s i .phase) (asked (stationAt s′ i) j) (settled (stationAt s′ i) j) q (target (stationAt s j)) (suc (stationAt s j .phase))
+      → Flow (stationAt s i .phase) (reqsTaken (stationAt s′ i) j) (donesTaken (stationAt s′ i) j) q (target (stationAt s j)) (suc (stationAt s j .phase))
 
 module _ {K : Clock} (c : Config) (u : Rules c) (i j : ℕ) (ij : neighbours c i j ≡ true) (s s′ : State K) (x : Item K) (q : List (Item K))
     (taken : List (Tagged K)) (v : Invariant c s) (m : Takes c i j s s′ x q taken) where
   ji : neighbours c j i ≡ true
   ji = u .both-ways i j ij
-
-  apart : j ≢ i
-  apart e = u .loopless i (rw e at ij)
 
   takes-link : (a b : ℕ) → b ≢ i → linkAt s′ a b ≡ linkAt s a b
   takes-link a b n = by-dec (ℕ-discrete a j) (λ p. rw p (m .cols b n)) (λ p. m .rows a b p)
@@ -129,10 +125,10 @@ module _ {K : Clock} (c : Config) (u : Rules c) (i j : ℕ) (ij : neighbours c i
       by-dec (ℕ-discrete b i)
       (λ r. by-dec (ℕ-discrete a i) (λ p. absurd (u .loopless i (rw (p, r) at h)))
       (λ p. by-dec (ℕ-discrete a j)
-      (λ e. rw (r, e, m .left, m .others j apart, m .phase-same) (rw (m .phase-same) at (m .moved (rw (m .held) at (v .flow j i ji)))))
+      (λ e. rw (r, e, m .left, m .others j (not-itself c u i j ij), m .phase-same) (rw (m .phase-same) at (m .moved (rw (m .held) at (v .flow j i ji)))))
       (λ e. rw (r, m .others a p, m .rows a i e, m .req-other a e, m .done-other a e, m .mode-same, m .phase-same) (v .flow a i (rw r at h)))))
       (λ r. by-dec (ℕ-discrete a i)
-      (λ p. rw (p, m .others b r, m .rows i b (λ e. apart (sym e)), m .mode-same, m .phase-same) (v .flow i b (rw p at h)))
+      (λ p. rw (p, m .others b r, m .rows i b (λ e. not-itself c u i j ij (sym e)), m .mode-same, m .phase-same) (v .flow i b (rw p at h)))
       (λ p. rw (m .others a p, m .others b r, takes-link a b r) (v .flow a b h)))
 
   pub takes-keeps : Invariant c s′

@@ -1,25 +1,27 @@
--- Begin and the reset rules keep the invariant, and move no message. Assumes nothing.
-use Prim.Native.Nat.{ℕ, suc, _≤_, _<_}
+-- Each change keeps the invariant. Begin, the reset rules and control items move no message; a send puts one message behind those that wait on its link, and
+-- a receipt takes the first. Assumes nothing.
+use Prim.Native.Nat.{ℕ, suc, _≤_, _+_}
 use mathlib.Core.Path.{_≡_, refl, sym, ap, _∙_}
 use mathlib.Core.List.{List, [], _∷_, _++_, append-nil}
-use mathlib.Core.Bool.{Bool, true, not, _||_}
+use mathlib.Core.Bool.{Bool, true, not, _||_, false, cond}
 use native.Mathlib.Omega.{arith}
 use Rattle.codec.proofs.EveryLaws.{every-at}
 use Rattle.reset.specs.Config.{Config, neighbours}
-use Rattle.reset.proofs.ConfigLaws.{Rules}
+use Rattle.reset.proofs.ConfigLaws.{Rules, neighbour-small}
 use Rattle.reset.specs.Clock.{Clock}
-use Rattle.reset.specs.State.{normal, mute, standBy, Item, resetReq, resetDone, Station, State, stationAt, linkAt, reqSeen, doneSeen, setStation, putOnAll}
-use Rattle.reset.specs.Steps.{everyNeighbour, begun, renewed, woken, beginReset, renew, wake, Rule, ruleA, ruleB, ruleC, noRule, ruleOf, apply, turnOnce, turn}
-use Rattle.reset.proofs.Views.{none-at, station-set, station-set-other, link-set-station, station-put-all, link-put-all, link-put-all-row}
+use Rattle.reset.specs.State.{normal, mute, standBy, Item, resetReq, resetDone, Station, State, stationAt, linkAt, reqSeen, doneSeen, setStation, putOnAll, Mode, message, setLink}
+use Rattle.reset.specs.Steps.{everyNeighbour, begun, renewed, woken, beginReset, renew, wake, Rule, ruleA, ruleB, ruleC, noRule, ruleOf, apply, turnOnce, turn, send, recv, entered, sending, maySend, doSend, receiving, doReceive, withReq, withDone}
+use Rattle.reset.proofs.Views.{none-at, station-set, station-set-other, link-set-station, station-put-all, link-put-all, link-put-all-row, station-set-link, link-set, link-set-row, link-set-col}
 use Rattle.reset.proofs.TurnLaws.{Tested, rule-tested}
-use Rattle.reset.proofs.Progress.{muted, target, asked, settled}
-use Rattle.reset.proofs.Flow.{Flow}
-use Rattle.reset.proofs.Invariant.{Invariant, Kept, kept-still, kept-then, Puts, puts-quiet}
-use Rattle.reset.proofs.Cases.{clash}
-
--- every neighbour is one of the eight
-pub neighbour-small : (c : Config) → Rules c → (i j : ℕ) → neighbours c i j ≡ true → j < 8
-neighbour-small c u i j h = omega (arith, u .inside i j h, u .small)
+use Rattle.reset.proofs.Changes.{muted, target, reqsTaken, donesTaken, Tagged, tags, waiting, sentOn, firstWith, gotOn}
+use Rattle.reset.proofs.Flow.{Flow, flow-reqs, flow-dones}
+use Rattle.reset.proofs.Invariant.{Invariant, Kept, kept-still, kept-then, Puts, puts-quiet, Carries, target-near, phase-near, puts-keeps, puts-waiting, puts-still, Takes, takes-keeps, takes-waiting, takes-still}
+use Rattle.reset.proofs.Cases.{clash, by-dec}
+use mathlib.Core.Logic.{_≢_}
+use native.Mathlib.Decide.{ℕ-discrete}
+use lib.Dec.{eqb}
+use borrow.Author.Tests.{eq-eqb, ne-eqb, eqb-true, eqb-false}
+use Rattle.codec.proofs.PutLaws.{put-same, put-other}
 
 every-neighbour-at : (c : Config) → Rules c → (i : ℕ) (p : ℕ → Bool) → everyNeighbour c i p ≡ true → (j : ℕ) → neighbours c i j ≡ true → p j ≡ true
 unfolding everyNeighbour
@@ -29,8 +31,8 @@ module _ {K : Clock} (c : Config) (u : Rules c) (i : ℕ) (s : State K) where
   -- a new record x, and the item y on every link out
   puts-all : (x : Station K) (y : Item K)
       → stationAt s i .phase ≤ x .phase
-      → ((j : ℕ) → neighbours c i j ≡ true → asked x j ≡ asked (stationAt s i) j)
-      → ((j : ℕ) → neighbours c i j ≡ true → settled x j ≡ settled (stationAt s i) j)
+      → ((j : ℕ) → neighbours c i j ≡ true → reqsTaken x j ≡ reqsTaken (stationAt s i) j)
+      → ((j : ℕ) → neighbours c i j ≡ true → donesTaken x j ≡ donesTaken (stationAt s i) j)
       → ((b : ℕ) → Flow (stationAt s b .phase) (target (stationAt s i)) (suc (stationAt s i .phase)) (y ∷ []) (target x) (suc (x .phase)))
       → ((j : ℕ) → neighbours c i j ≡ true → x .mode ≡ normal → doneSeen x j ≡ true)
       → Puts c i s (putOnAll c (setStation s i x) i y) (λ b. y ∷ [])
@@ -109,3 +111,170 @@ turn-keeps c u i s v =
     let k₁ = turn-once-keeps c u i s v in
     let k₂ = turn-once-keeps c u i _ (k₁ .inv) in
     kept-then c (kept-then c k₁ k₂) (turn-once-keeps c u i _ (k₂ .inv))
+
+-- ---- enter
+pub enter-keeps : {K : Clock} (c : Config) → Rules c → (s : State K) → Invariant c s → (i : ℕ) → Kept c s (setStation s i (entered i (stationAt s i)))
+enter-keeps c u s v i =
+    puts-quiet c u i s _ _ v (puts-own c u i s (entered i (stationAt s i)) refl refl refl refl (λ j h e. v .seen i j h e)) (λ b. refl)
+
+-- ---- send
+may-send-unmuted : (m : Mode) (d : Bool) → maySend m d ≡ true → muted m ≡ 0
+may-send-unmuted normal d h = refl
+may-send-unmuted mute d h = clash (cc)
+may-send-unmuted standBy d h = refl
+
+may-send-seen : (m : Mode) (d : Bool) → maySend m d ≡ true → (m ≡ normal → d ≡ true) → d ≡ true
+may-send-seen normal d h k = k refl
+may-send-seen mute d h k = clash (cc)
+may-send-seen standBy d h k = h
+
+module _ {K : Clock} (c : Config) (u : Rules c) (s : State K) (v : Invariant c s) (i j g : ℕ) (ij : neighbours c i j ≡ true)
+    (may : maySend (stationAt s i .mode) (doneSeen (stationAt s i) j) ≡ true) where
+  abbrev w : K .Load
+  w = K .load i j (K .tick i (stationAt s i .time))
+
+  abbrev x : Station K
+  x = sending i j (stationAt s i)
+
+  abbrev out : ℕ → List (Item K)
+  out b = cond (eqb j b) (message w g ∷ []) []
+
+  onto-send : (b : ℕ) (t : Bool) → eqb j b ≡ t → linkAt (doSend i j g s .after) i b ≡ linkAt s i b ++ cond t (message w g ∷ []) []
+  onto-send b true e = rw (← eqb-true j b e) (link-set _ i j _ ∙ ap (λ (q : List (Item K)). q ++ (message w g ∷ [])) (link-set-station s i x i j))
+  onto-send b false e = link-set-col _ i j _ b (λ p. eqb-false j b e (sym p)) ∙ link-set-station s i x i b ∙ sym (append-nil (linkAt s i b))
+
+  tail-send : (b : ℕ) (t : Bool) → eqb j b ≡ t
+      → Flow {K = K} (stationAt s b .phase) (target (stationAt s i)) (suc (stationAt s i .phase)) (cond t (message w g ∷ []) []) (target x) (suc (x .phase))
+  tail-send b true e =
+      let k = rw (may-send-seen _ _ may (v .seen i j ij)) at (flow-dones _ _ _ (linkAt s j i) _ _ (v .flow j i (u .both-ways i j ij))) in
+      rw (← eqb-true j b e, may-send-unmuted _ _ may) (omega arith)
+  tail-send b false e = (refl, refl)
+
+  puts-send : Puts c i s (doSend i j g s .after) out
+  puts-send =
+      record {
+        others = λ k n. station-set-link _ i j _ k ∙ station-set-other s i x k n;
+        kept = λ a b n. link-set-row _ i j _ a b n ∙ link-set-station s i x a b;
+        onto = λ b h. onto-send b (eqb j b) refl;
+        up = rw (station-set-link, station-set) (omega arith);
+        head-reqs = rw (station-set-link, station-set) (λ k h. refl);
+        head-dones = rw (station-set-link, station-set) (λ k h. refl);
+        tail = rw (station-set-link, station-set) (λ b h. tail-send b (eqb j b) refl);
+        seen′ = rw (station-set-link, station-set) (λ k h e. v .seen i k h e);
+      }
+
+  pub send-keeps : Invariant c (doSend i j g s .after)
+  send-keeps = puts-keeps c u i s _ out v puts-send
+
+  tag-send : (t : Bool) → cond t (record { phase = stationAt s i .phase; load = w; register = g } ∷ []) [] ≡ tags {K = K} (target (stationAt s i)) (cond t (message w g ∷ []) [])
+  tag-send true =
+      let e : stationAt s i .phase ≡ target (stationAt s i) = omega (arith, may-send-unmuted (stationAt s i .mode) (doneSeen (stationAt s i) j) may) in
+      ap {B = List (Tagged K)} (λ r. record { phase = r; load = w; register = g } ∷ []) e
+  tag-send false = refl
+
+  pub send-log : (a b : ℕ) → neighbours c a b ≡ true → waiting s a b ++ sentOn s a b (send i j g) ≡ waiting (doSend i j g s .after) a b
+  send-log a b h =
+      by-dec (ℕ-discrete a i)
+      (λ p. rw (p, eq-eqb i i refl, tag-send (eqb j b)) (sym (puts-waiting c u i s _ out v puts-send b (rw p at h) (λ e. u .loopless i (rw (p, e) at h)))))
+      (λ p. rw (ne-eqb i a (λ e. p (sym e))) (append-nil (waiting s a b) ∙ sym (puts-still c u i s _ out v puts-send a b h p (ℕ-discrete b i))))
+
+-- ---- recv
+module _ {K : Clock} (c : Config) (u : Rules c) (s : State K) (v : Invariant c s) (i j : ℕ) (ij : neighbours c i j ≡ true) (q : List (Item K)) where
+  -- a new record, and the first item off the link
+  taken-by : (x : Station K) (y : Item K) (taken : List (Tagged K))
+      → linkAt s j i ≡ y ∷ q
+      → x .mode ≡ stationAt s i .mode
+      → x .phase ≡ stationAt s i .phase
+      → ((k : ℕ) → k ≢ j → reqSeen x k ≡ reqSeen (stationAt s i) k)
+      → ((k : ℕ) → k ≢ j → doneSeen x k ≡ doneSeen (stationAt s i) k)
+      → ((k : ℕ) → doneSeen (stationAt s i) k ≡ true → doneSeen x k ≡ true)
+      → (Carries j (stationAt s j) (y ∷ q) (stationAt s i) → tags (reqsTaken (stationAt s i) j) (y ∷ q) ≡ taken ++ tags (reqsTaken x j) q)
+      → (Carries j (stationAt s j) (y ∷ q) (stationAt s i)
+      → Flow (stationAt s i .phase) (reqsTaken x j) (donesTaken x j) q (target (stationAt s j)) (suc (stationAt s j .phase)))
+      → Takes c i j s (setLink (setStation s i x) j i q) y q taken
+  taken-by x y taken held md ph ro dr dm ms mv =
+      record {
+        held = held;
+        left = link-set _ j i q;
+        others = λ k n. station-set-link _ j i q k ∙ station-set-other s i x k n;
+        rows = λ a b n. link-set-row _ j i q a b n ∙ link-set-station s i x a b;
+        cols = λ b n. link-set-col _ j i q b n ∙ link-set-station s i x j b;
+        mode-same = rw (station-set-link, station-set) md;
+        phase-same = rw (station-set-link, station-set) ph;
+        req-other = rw (station-set-link, station-set) ro;
+        done-other = rw (station-set-link, station-set) dr;
+        done-more = rw (station-set-link, station-set) dm;
+        messages = rw (station-set-link, station-set) ms;
+        moved = rw (station-set-link, station-set) mv;
+      }
+
+  -- a message: it lies in the receiver's phase
+  takes-message : (w : K .Load) (g : ℕ) → linkAt s j i ≡ message w g ∷ q
+      → Takes c i j s (doReceive i j w g q s .after) (message w g) q (record { phase = stationAt s i .phase; load = w; register = g } ∷ [])
+  takes-message w g held =
+      taken-by (receiving i j w (stationAt s i)) (message w g) _ held refl refl (λ k n. refl) (λ k n. refl) (λ k d. d)
+      (λ h. let e : reqsTaken (stationAt s i) j ≡ stationAt s i .phase = omega arith in
+      ap {B = List (Tagged K)} (λ r. record { phase = r; load = w; register = g } ∷ tags (reqsTaken (stationAt s i) j) q) e)
+      (λ h. h .2)
+
+  -- reset_req: it was not seen before
+  takes-req : linkAt s j i ≡ resetReq ∷ q → Takes c i j s (setLink (setStation s i (withReq j (stationAt s i))) j i q) resetReq q []
+  takes-req held =
+      taken-by (withReq j (stationAt s i)) resetReq [] held refl refl (λ k n. put-other false (stationAt s i .reqs) j k true n) (λ k n. refl) (λ k d. d)
+      (λ h. rw (put-same, moved h))
+      (λ h. rw (put-same, ← moved h) (h .1))
+    where
+      moved : Carries j (stationAt s j) (resetReq ∷ q) (stationAt s i) → suc (reqsTaken (stationAt s i) j) ≡ stationAt s i .phase + 1
+      moved h =
+          let k = flow-reqs _ _ _ q _ _ (h .1) in
+          let l = target-near c s v i j ij in
+          omega arith
+
+  -- reset_done: it was not seen before
+  takes-done : linkAt s j i ≡ resetDone ∷ q → Takes c i j s (setLink (setStation s i (withDone j (stationAt s i))) j i q) resetDone q []
+  takes-done held =
+      taken-by (withDone j (stationAt s i)) resetDone [] held refl refl (λ k n. refl) (λ k n. put-other false (stationAt s i .dones) j k true n)
+      (λ k d. by-dec (ℕ-discrete k j) (λ p. rw (p, put-same)) (λ p. put-other false (stationAt s i .dones) j k true p ∙ d))
+      (λ h. refl)
+      (λ h. rw (put-same, ← moved h) (h .1))
+    where
+      moved : Carries j (stationAt s j) (resetDone ∷ q) (stationAt s i) → suc (donesTaken (stationAt s i) j) ≡ target (stationAt s i) + 1
+      moved h =
+          let k = flow-dones _ _ _ q _ _ (h .1) in
+          let l = phase-near c s v i j ij in
+          omega arith
+
+  -- the message is the first that waits
+  pub receive-keeps : (w : K .Load) (g : ℕ) → linkAt s j i ≡ message w g ∷ q → Invariant c (doReceive i j w g q s .after)
+  receive-keeps w g held = takes-keeps c u i j ij s _ (message w g) q _ v (takes-message w g held)
+
+  pub receive-log : (w : K .Load) (g : ℕ) → linkAt s j i ≡ message w g ∷ q → (a b : ℕ) → neighbours c a b ≡ true
+      → waiting s a b ++ [] ≡ gotOn s a b (recv i j) ++ waiting (doReceive i j w g q s .after) a b
+  receive-log w g held a b h =
+      let m = takes-message w g held in
+      by-dec (ℕ-discrete a j)
+      (λ p. by-dec (ℕ-discrete b i)
+      (λ r. rw (p, r, eq-eqb i i refl, eq-eqb j j refl)
+      (append-nil (waiting s j i) ∙ takes-waiting c u i j ij s _ (message w g) q _ v m
+      ∙ ap (λ (z : List (Item K)). firstWith (stationAt s i .phase) z ++ waiting (doReceive i j w g q s .after) j i) (sym held)))
+      (λ r. rw (p, eq-eqb j j refl, ne-eqb i b (λ e. r (sym e)))
+      (append-nil (waiting s j b) ∙ sym (takes-still c u i j ij s _ (message w g) q _ v m j b (rw p at h) (no r) (λ e f. r f)))))
+      (λ p. rw (ne-eqb j a (λ e. p (sym e)))
+      (append-nil (waiting s a b) ∙ sym (takes-still c u i j ij s _ (message w g) q _ v m a b h (ℕ-discrete b i) (λ e f. p e))))
+
+  -- a control item moves none
+  unmoved-take : (s′ : State K) (y : Item K) → Takes c i j s s′ y q [] → Kept c s s′
+  unmoved-take s′ y m =
+      record {
+        inv = takes-keeps c u i j ij s s′ y q [] v m;
+        unmoved = λ a b h. by-dec (ℕ-discrete a j)
+            (λ p. by-dec (ℕ-discrete b i) (λ r. rw (p, r) (sym (takes-waiting c u i j ij s s′ y q [] v m)))
+            (λ r. takes-still c u i j ij s s′ y q [] v m a b h (no r) (λ e f. r f)))
+            (λ p. takes-still c u i j ij s s′ y q [] v m a b h (ℕ-discrete b i) (λ e f. p e));
+      }
+
+  pub req-keeps : linkAt s j i ≡ resetReq ∷ q → Kept c s (setLink (setStation s i (withReq j (stationAt s i))) j i q)
+  req-keeps held = unmoved-take _ resetReq (takes-req held)
+
+  pub done-keeps : linkAt s j i ≡ resetDone ∷ q → Kept c s (setLink (setStation s i (withDone j (stationAt s i))) j i q)
+  done-keeps held = unmoved-take _ resetDone (takes-done held)

@@ -1,5 +1,4 @@
 pub mod Cases
-pub mod Progress
 pub mod Views
 pub mod TurnLaws
 pub mod StepLaws
@@ -9,10 +8,8 @@ pub mod Changes
 pub mod Flow
 pub mod Invariant
 pub mod Keeps
-pub mod Messages
 pub mod Summary
 pub mod Initial
 pub mod Coherent
-pub mod Bounds
 pub mod FormedParts
 pub mod Formed

@@ -1,14 +1,13 @@
 -- Every step keeps the invariant and does what `Summary` says. Assumes nothing.
-use Prim.Native.Nat.{ℕ, _<_}
+use Prim.Native.Nat.{ℕ}
 use mathlib.Core.Path.{_≡_, refl, sym, _∙_}
 use mathlib.Core.Logic.{_≢_}
 use mathlib.Core.List.{List, _∷_, append-nil}
 use mathlib.Core.Bool.{true}
 use native.Mathlib.Omega.{arith}
 use native.Mathlib.Decide.{ℕ-discrete}
-use borrow.Author.Tests.{ltb-true}
 use Rattle.reset.specs.Config.{Config, isStation, neighbours}
-use Rattle.reset.proofs.ConfigLaws.{Rules}
+use Rattle.reset.proofs.ConfigLaws.{Rules, station-below}
 use Rattle.reset.specs.Clock.{Clock}
 use Rattle.reset.specs.State.{normal, Item, message, Station, State, stationAt, linkAt, doneSeen, setStation, setLink}
 use Rattle.reset.specs.Steps.{begun, beginReset, Rule, ruleA, ruleB, ruleC, noRule, ruleOf, applied, turnOnce, turn, Step, enter, send, recv, start, Outcome, doEnter, maySend, doSend, receiving, doReceive, doMark, doStart, step}
@@ -17,8 +16,7 @@ use Rattle.reset.proofs.TurnLaws.{station-turn-once, station-turn-once-
 use Rattle.reset.proofs.StepLaws.{of-step}
 use Rattle.reset.proofs.Changes.{Move, stays, renews, Quiet, Summary}
 use Rattle.reset.proofs.Invariant.{Invariant, Kept, kept-then}
-use Rattle.reset.proofs.Keeps.{begin-keeps, turn-keeps}
-use Rattle.reset.proofs.Messages.{enter-keeps, send-keeps, send-log, receive-keeps, receive-log, req-keeps, done-keeps}
+use Rattle.reset.proofs.Keeps.{begin-keeps, turn-keeps, enter-keeps, send-keeps, send-log, receive-keeps, receive-log, req-keeps, done-keeps}
 use Rattle.reset.proofs.Cases.{by-dec}
 
 -- ---- moves of a station's record
@@ -61,10 +59,6 @@ module _ {K : Clock} (c : Config) (i : ℕ) where
 -- ---- each outcome that is accepted
 abbrev Does : {K : Clock} → Config → State K → Step → Outcome K → Type 0
 Does c s p o = Invariant c (o .after) × Summary c s p (o .answer) (o .after)
-
-station-below : (c : Config) (i : ℕ) → isStation c i ≡ true → i < c .n
-unfolding isStation
-station-below c i h = ltb-true _ _ h
 
 module _ {K : Clock} (c : Config) (u : Rules c) (s : State K) (v : Invariant c s) where
   does-enter : (i g : ℕ) → isStation c i ≡ true → Does c s (enter i g) (doEnter i g s)

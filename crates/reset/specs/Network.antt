@@ -14,8 +14,7 @@ use Rattle.reset.specs.Steps.{Step, Answer, step, isNormal}
 
 -- initial (document 01: fresh): normal, phase 0, counts 0, no req seen, every neighbour's done seen
 abbrev pub initialStation : (K : Clock) → Config → ℕ → Station K
-initialStation K c i =
-    record { time = K .start; mode = normal; phase = 0; own = 0; sent = zeros; reqs = noneSeen; dones = upto 8 (neighbours c i) }
+initialStation K c i = record { time = K .start; mode = normal; phase = 0; own = 0; sent = zeros; reqs = noneSeen; dones = upto 8 (neighbours c i) }
 
 -- links empty
 unfoldable pub initial : (K : Clock) → Config → State K

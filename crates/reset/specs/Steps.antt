@@ -166,10 +166,7 @@ sending {K} i j x = withTime (K .sent i j (K .tick i (x .time))) (withSent (put 
 abbrev pub doSend : {K : Clock} → ℕ → ℕ → ℕ → State K → Outcome K
 doSend {K} i j g s =
     let x = sending i j (stationAt s i) in
-    record {
-      answer = entry (entryOf 2 i j g x);
-      after = putOn (setStation s i x) i j (message (K .load i j (K .tick i (stationAt s i .time))) g);
-    }
+    record { answer = entry (entryOf 2 i j g x); after = putOn (setStation s i x) i j (message (K .load i j (K .tick i (stationAt s i .time))) g) }
 
 -- allowed in normal, and in stand-by where j's done is seen
 abbrev pub maySend : Mode → Bool → Bool

@@ -55,8 +55,7 @@ abbrev pub pair : Config
 pair = link 0 1 2 (allow 1 3 (allow 0 3 (net 2 7)))
 
 abbrev pub listing : List Step
-listing =
-    enter 0 501 ∷ send 0 1 502 ∷ start 1 ∷ recv 1 0 ∷ recv 0 1 ∷ recv 1 0 ∷ recv 1 0 ∷ send 1 0 503 ∷ recv 0 1 ∷ recv 0 1 ∷ recv 0 1 ∷ []
+listing = enter 0 501 ∷ send 0 1 502 ∷ start 1 ∷ recv 1 0 ∷ recv 0 1 ∷ recv 1 0 ∷ recv 1 0 ∷ send 1 0 503 ∷ recv 0 1 ∷ recv 0 1 ∷ recv 0 1 ∷ []
 
 pub worked-listing : lines pair listing
     ≡ entryLine 0 0 (1 ∷ 0 ∷ [])

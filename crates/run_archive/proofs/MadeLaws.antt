@@ -2,7 +2,7 @@
 use Prim.Native.Nat.{ℕ, _+_, _*_, _-_, _/_, _%_, min, _≤_, _<_}
 use mathlib.Core.Path.{_≡_, refl, ap, _∙_}
 use mathlib.Core.List.{List, [], _++_, append-nil}
-use mathlib.Core.Bool.{Bool, true, false, _||_, cond}
+use mathlib.Core.Bool.{true, _||_}
 use native.Mathlib.Omega.{arith}
 use lib.Dec.{eqb, leb}
 use lib.ListN.{length, getD, take, drop, length-append, length-take, length-drop}
@@ -29,6 +29,7 @@ use Rattle.causality.specs.HappenedBefore.{Accepted, noEntry, entryAt}
 use Rattle.steps.specs.Answers.{recordOf}
 use Rattle.run_archive.specs.Made.{bytesOfEntry, recordsOf, blockRecords, madeBlock, blocksFor, archiveOf}
 use Rattle.run_archive.specs.Claims.{InRange, Archived}
+use Rattle.reset.proofs.Cases.{by-test}
 
 -- ---- the records' bytes
 entry-length : (x : Accepted) → length (bytesOfEntry x) ≡ 32
@@ -135,11 +136,9 @@ module _ (c : Config) (E : List Accepted) (w : wellMade c ≡ true) (few : lengt
     made-fits =
         join (wellMadeEntries (madeBlock E b)) _ made-accepted
         (join (eqb (numberOf (madeBlock E b)) (b + 1)) _ (eq-eqb _ _ made-number)
-        (join (eqb (b + 1) (blocksFor (length E)) || eqb (countOf (madeBlock E b)) 15) _ (full (eqb (b + 1) (blocksFor (length E))) refl) made-known))
-      where
-        full : (t : Bool) → eqb (b + 1) (blocksFor (length E)) ≡ t → (t || eqb (countOf (madeBlock E b)) 15) ≡ true
-        full true e = refl
-        full false e = let n : b + 1 ≡ blocksFor (length E) → ⊥ = eqb-false _ _ e in eq-eqb (countOf (madeBlock E b)) 15 (omega (arith, made-count))
+        (join (eqb (b + 1) (blocksFor (length E)) || eqb (countOf (madeBlock E b)) 15) _
+        (by-test (eqb (b + 1) (blocksFor (length E))) (λ e. rw e)
+        (λ e. let n : b + 1 ≡ blocksFor (length E) → ⊥ = eqb-false _ _ e in rw e (eq-eqb (countOf (madeBlock E b)) 15 (omega (arith, made-count))))) made-known))
 
   -- ---- where they stand
   header-length : length (imageHeader (headerOf c) (c .limits)) ≡ 512
@@ -192,15 +191,12 @@ module _ (c : Config) (E : List Accepted) (w : wellMade c ≡ true) (few : lengt
 
   many : records a ≡ length E
   unfolding records
-  many = rw blocks-is (go (eqb (blocksFor (length E)) 0) refl)
-    where
-      go : (t : Bool) → eqb (blocksFor (length E)) 0 ≡ t
-          → cond t 0 ((blocksFor (length E) - 1) * 15 + countOf (blockOf a (blocksFor (length E) - 1))) ≡ length E
-      go true e = omega (arith, eqb-true (blocksFor (length E)) 0 e)
-      go false e =
-          let n : blocksFor (length E) ≡ 0 → ⊥ = eqb-false _ _ e in
-          let l : blocksFor (length E) - 1 < blocksFor (length E) = omega arith in
-          rw (block-is (blocksFor (length E) - 1) l, made-count (blocksFor (length E) - 1) l) (omega arith)
+  many =
+      rw blocks-is
+      (by-test (eqb (blocksFor (length E)) 0) (λ e. rw e (omega (arith, eqb-true (blocksFor (length E)) 0 e)))
+      (λ e. let n : blocksFor (length E) ≡ 0 → ⊥ = eqb-false _ _ e in
+      let l : blocksFor (length E) - 1 < blocksFor (length E) = omega arith in
+      rw (e, block-is (blocksFor (length E) - 1) l, made-count (blocksFor (length E) - 1) l) (omega arith)))
 
   found : (k : ℕ) → k < length E → recordAt a k ≡ bytesOfEntry (entryAt E k)
   found k l =

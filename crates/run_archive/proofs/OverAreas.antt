@@ -6,13 +6,13 @@ use Rattle.reset.specs.Network.{initial}
 use Rattle.reset.proofs.Formed.{initial-well-formed}
 use Rattle.rules.specs.Setup.{blockConfig}
 use Rattle.rules.proofs.Laws.{accepted-well-made}
-use Rattle.area_calls.proofs.Demand3.{accepted as setup-accepted, log-on-image}
+use Rattle.area_calls.proofs.Demand3.{setup-accepts, log-on-image}
 use Rattle.run_archive.specs.Claims.{EveryChronicle}
 use Rattle.run_archive.proofs.Told.{every-archive}
 
 pub every-chronicle : EveryChronicle
 every-chronicle block a b h ps f =
-    let p = setup-accepted block a h in
+    let p = setup-accepts block a h in
     let c : Config = blockConfig block in
     let m = accepted-well-made block b (p .0) in
     let w = initial-well-formed c m (p .1) in

@@ -7,7 +7,7 @@ use mathlib.Core.Bool.{true}
 use native.Mathlib.Omega.{arith}
 use lib.Dec.{eqb, leb, ltb}
 use lib.ListN.{length, getD}
-use borrow.Author.Tests.{eqb-true, eqb-false, leb-true, le-leb, ltb-true, lt-ltb, ne-eqb, not-true}
+use borrow.Author.Tests.{eqb-true, eqb-false, leb-true, le-leb, lt-ltb, ne-eqb, not-true}
 use Rattle.codec.proofs.NumLaws.{below-of}
 use Rattle.codec.proofs.EveryLaws.{both, every-at, every-of}
 use Rattle.codec.proofs.PutLaws.{put-same}
@@ -17,7 +17,7 @@ use Rattle.record.specs.Record.{peerFits, recordFits}
 use Rattle.archive.specs.Archive.{hasLink, peerKnown, recordKnown}
 use Rattle.reset.specs.Reach.{limit, linked}
 use Rattle.reset.specs.Config.{Config, isStation, neighbours, places, wellMade}
-use Rattle.reset.proofs.ConfigLaws.{Rules, rules, shape}
+use Rattle.reset.proofs.ConfigLaws.{Rules, rules, shape, station-below, not-itself}
 use Rattle.reset.specs.Clock.{vector}
 use Rattle.reset.specs.State.{Item, message, Station, State, stationAt}
 use Rattle.reset.specs.Steps.{Step, Entry, Answer, refused, entry, modeAfter, Outcome, entered, entryOf, sending, receiving, step}
@@ -25,11 +25,11 @@ use Rattle.reset.specs.Network.{initial, log}
 use Rattle.reset.specs.WellFormed.{registerFits, ofStation, countFits, countsFit, modeFits, phaseFits, stationFits, itemFitsAt, linkFits, wellFormed, stepFits, StepsFit}
 use Rattle.reset.proofs.Views.{station-set, station-set-link}
 use Rattle.reset.proofs.StepLaws.{of-step}
-use Rattle.reset.proofs.Formed.{Formed, formed-of, initial-well-formed, step-well-formed}
+use Rattle.reset.proofs.Formed.{Formed, formed-of, counts-small, initial-well-formed, step-well-formed}
 use Rattle.causality.specs.HappenedBefore.{Accepted, withEntry, accepted, entryAt}
 use Rattle.steps.specs.Answers.{recordOf}
 use Rattle.run_archive.specs.Claims.{InRange, AllInRange}
-use Rattle.reset.proofs.Cases.{by-test, clash}
+use Rattle.reset.proofs.Cases.{clash}
 
 -- ---- from the tests of a well-formed state
 module _ (c : Config) where
@@ -59,11 +59,6 @@ module _ (c : Config) where
     unfolding countsFit
     count-at k l = every-at 8 (countFits c (c .t) v) k (both (eqb (length v) 8) _ h .1) l
 
-    count-small : (k : ℕ) → k < 8 → getD v k 0 ≤ c .t
-    count-small k l =
-        let a = leb-true _ _ (count-at k l) in
-        by-test (isStation c k) (λ e. rw e at a) (λ e. let b : getD v k 0 ≤ 0 = rw e at a in omega arith)
-
     counts-known : clockFits (c .n) (c .t) v ≡ true
     unfolding clockFits isStation
     counts-known = every-of 8 (λ (k : ℕ). leb (getD v k 0) (ceilingOf (c .n) (c .t) k)) (λ (k : ℕ) (l : k < 8). count-at k l)
@@ -88,48 +83,34 @@ module _ (c : Config) (w : wellMade c ≡ true) (u : Rules c) where
   own-peer i = record { kind-small = omega arith; peer-small = omega arith; peer-fits = refl; peer-known = λ g x. refl }
 
   module _ (i j : ℕ) (ij : neighbours c i j ≡ true) where
-    near : j < c .n
-    near = u .inside i j ij
-
-    apart : j ≢ i
-    apart e = u .loopless i (rw e at ij)
-
     sent-peer : Peer 2 i j
     unfolding peerFits peerKnown
     sent-peer =
-        let l = near in
+        let l : j < c .n = u .inside i j ij in
         let m = u .small in
-        let a : ltb j 8 ≡ true = lt-ltb j 8 (omega arith) in
         record {
           kind-small = omega arith;
           peer-small = omega arith;
-          peer-fits = rw (a, ne-eqb j i apart);
-          peer-known = λ g x. rw (lt-ltb j (c .n) near, has-link c i j ij);
+          peer-fits = rw (lt-ltb j 8 (omega arith), ne-eqb j i (not-itself c u i j ij));
+          peer-known = λ g x. rw (lt-ltb j (c .n) l, has-link c i j ij);
         }
 
     received-peer : Peer 3 i j
     unfolding peerFits peerKnown
     received-peer =
-        let l = near in
-        let m = u .small in
-        let a : ltb j 8 ≡ true = lt-ltb j 8 (omega arith) in
         record {
           kind-small = omega arith;
-          peer-small = omega arith;
-          peer-fits = rw (a, ne-eqb j i apart);
-          peer-known = λ g x. rw (lt-ltb j (c .n) near, has-link c j i (u .both-ways i j ij));
+          peer-small = sent-peer .peer-small;
+          peer-fits = sent-peer .peer-fits;
+          peer-known = λ g x. rw (lt-ltb j (c .n) (u .inside i j ij), has-link c j i (u .both-ways i j ij));
         }
-
-  below-n : (i : ℕ) → isStation c i ≡ true → i < c .n
-  unfolding isStation
-  below-n i si = ltb-true i (c .n) si
 
   in-range : (k i j g : ℕ) (x : Station vector) → Peer k i j → isStation c i ≡ true → stationFits c i x ≡ true → registerFits g ≡ true
       → 1 ≤ getD (x .time) i 0 → InRange c (entryOf {K = vector} k i j g x)
   unfolding recordFits recordKnown
   in-range k i j g x p si f r o =
       let s = station-facts c i x si f in
-      let n : i < c .n = below-n i si in
+      let n : i < c .n = station-below c i si in
       let m : c .n ≤ 8 = u .small in
       let t : c .t ≤ 65535 = shape c w .ceiling in
       let l : x .phase ≤ 999999 = s .1 in
@@ -145,7 +126,7 @@ module _ (c : Config) (w : wellMade c ≡ true) (u : Rules c) where
           phase = omega arith;
           register = omega arith;
           eight = e;
-          counts = below-of 65536 (x .time) (λ (d : ℕ) (b : d < length (x .time)). let q = count-small c (x .time) (s .0) d (omega arith) in omega arith);
+          counts = below-of 65536 (x .time) (λ (d : ℕ) (b : d < length (x .time)). let q = counts-small c (c .t) (x .time) (s .0) d (omega arith) in omega arith);
         };
         known = rw (lt-ltb i (c .n) n, p .peer-known g x, counts-known c (x .time) (s .0));
       }
@@ -158,7 +139,7 @@ module _ (c : Config) (w : wellMade c ≡ true) (u : Rules c) where
   Ranged p o = Formed c (o .after) → stepFits p ≡ true → (e : Entry) → o .answer ≡ entry e → InRange c e
 
   below-8 : (i : ℕ) → isStation c i ≡ true → i < 8
-  below-8 i si = omega (arith, below-n i si, u .small)
+  below-8 i si = omega (arith, station-below c i si, u .small)
 
   module _ (s : State vector) (h : Formed c s) where
     step-in-range : (p : Step) → Ranged p (step c s p)

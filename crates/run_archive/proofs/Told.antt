@@ -35,6 +35,7 @@ use Rattle.run_archive.specs.Made.{archiveOf}
 use Rattle.run_archive.specs.Claims.{entriesOf, InRange, Archived, Beside, Verdicts, Tells, EveryArchive}
 use Rattle.run_archive.proofs.RangeLaws.{all-in-range}
 use Rattle.run_archive.proofs.MadeLaws.{parsed-bytes, archived}
+use Rattle.reset.proofs.Cases.{by-dec}
 
 module _ (c : Config) (E : List Accepted) (range : (k : ℕ) → k < length E → InRange c (entryAt E k .entry)) (A : Archived c E)
     (by : (x y : ℕ) → x < length E → y < length E → phaseOf E x ≡ phaseOf E y → HappenedBefore E x y ↔ Less (timestampOf E x) (timestampOf E y))
@@ -82,18 +83,15 @@ module _ (c : Config) (E : List Accepted) (range : (k : ℕ) → k < length E �
         }
 
   listed : (x y : ℕ) → x < length E → (isUnordered (archiveOf c E) x y ≡ true) ↔ Beside E x y
-  listed x y xl = (there, here)
-    where
-      there : isUnordered (archiveOf c E) x y ≡ true → Beside E x y
-      there h =
-          let k : y < records (archiveOf c E) = unordered-below (archiveOf c E) x y h in
-          let l : y < length E = omega (arith, A .many) in
-          let p : phaseOf E x ≡ phaseOf E y = sym (phase-is x xl) ∙ unordered-means (archiveOf c E) x y k .0 h .0 ∙ phase-is y l in
-          (l, p, verdicts x y xl l p .unordered .0 (listed-by-order (archiveOf c E) x y (A .tested) (in-archive x xl) k .0 h))
-
-      here : Beside E x y → isUnordered (archiveOf c E) x y ≡ true
-      here h =
-          listed-by-order (archiveOf c E) x y (A .tested) (in-archive x xl) (in-archive y (h .0)) .1 (verdicts x y xl (h .0) (h .1) .unordered .1 (h .2))
+  listed x y xl = (
+    λ h.
+        let k : y < records (archiveOf c E) = unordered-below (archiveOf c E) x y h in
+        let l : y < length E = omega (arith, A .many) in
+        let p : phaseOf E x ≡ phaseOf E y = sym (phase-is x xl) ∙ unordered-means (archiveOf c E) x y k .0 h .0 ∙ phase-is y l in
+        (l, p, verdicts x y xl l p .unordered .0 (listed-by-order (archiveOf c E) x y (A .tested) (in-archive x xl) k .0 h)),
+    λ h.
+        listed-by-order (archiveOf c E) x y (A .tested) (in-archive x xl) (in-archive y (h .0)) .1 (verdicts x y xl (h .0) (h .1) .unordered .1 (h .2)),
+  )
 
   pub tells : Tells (archiveOf c E) E
   tells =
@@ -111,13 +109,10 @@ module _ (c : Config) (w : wellMade c ≡ true) (r : networkRules c ≡ true) (p
 
   one-timestamp : (x y : ℕ) → x < length (entriesOf c ps) → y < length (entriesOf c ps) → phaseOf (entriesOf c ps) x ≡ phaseOf (entriesOf c ps) y
       → timestampOf (entriesOf c ps) x ≡ timestampOf (entriesOf c ps) y → x ≡ y
-  one-timestamp x y xl yl p e = go (ℕ-discrete x y)
-    where
-      go : Dec (x ≡ y) → x ≡ y
-      go (yes q) = q
-      go (no n) =
-          let h : HappenedBefore (entriesOf c ps) x y = from-chain _ _ trace (chain-exactly (clocked _ _ trace) x y xl yl p .1 (n, λ k. omega (arith, ap (λ (v : List ℕ). getD v k 0) e))) in
-          absurd (by-timestamp _ _ trace x y xl yl p .0 h .0 e)
+  one-timestamp x y xl yl p e =
+      by-dec (ℕ-discrete x y) (λ q. q)
+      (λ n. let k = chain-exactly (clocked _ _ trace) x y xl yl p .1 (n, λ k. omega (arith, ap (λ (v : List ℕ). getD v k 0) e)) in
+      absurd (by-timestamp _ _ trace x y xl yl p .0 (from-chain _ _ trace k) .0 e))
 
 pub every-archive : EveryArchive
 every-archive c w r ps f few =

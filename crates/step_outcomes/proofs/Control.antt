@@ -15,7 +15,7 @@ use Rattle.reset.specs.Clock.{Clock, vector}
 use Rattle.reset.specs.State.{Item, Station, State, stationAt, linkAt, setStation, putOnAll}
 use Rattle.reset.specs.Steps.{Rule, ruleA, ruleB, ruleC, noRule, ruleOf, applied, countBounded, linkBounded, inBounds}
 use Rattle.reset.proofs.Views.{zeros-at, station-set, station-set-other, link-set-station, station-put-all, link-put-all, link-put-all-far, link-put-all-row}
-use Rattle.reset.proofs.Bounds.{Bounds}
+use Rattle.reset.proofs.Formed.{Bounds}
 use Rattle.reset_rules.specs.Turn.{Turning, turnedOnce, turnedAll, turned, started, putItems}
 use Rattle.step_outcomes.proofs.Local.{localBounds, bool-iff, local}
 use Rattle.reset.proofs.Cases.{by-test}

@@ -1,4 +1,3 @@
 pub mod Local
-pub mod Entries
 pub mod Control
 pub mod Outcome

@@ -1,22 +1,26 @@
--- Number 9 looks at the whole state after a step; only the stepping station and its links out can be beyond a bound. Assumes nothing.
-use Prim.Native.Nat.{ℕ, _≤_, _<_}
-use mathlib.Core.Path.{_≡_, refl, sym}
+-- Number 9 looks at the whole state after a step; only the stepping station and its links out can be beyond a bound.
+-- So an entry meets it where the own count is at the ceiling or, for a send, the link is full. Assumes nothing.
+use Prim.Native.Nat.{ℕ, _≤_, _<_, zero, suc}
+use mathlib.Core.Path.{_≡_, refl, sym, _∙_}
 use mathlib.Core.Logic.{_≢_}
-use mathlib.Core.Bool.{Bool, true, false, _&&_}
+use mathlib.Core.Bool.{Bool, true, false, _&&_, and-true}
 use native.Mathlib.Omega.{arith}
 use native.Mathlib.Decide.{ℕ-discrete}
-use lib.ListN.{length}
+use lib.ListN.{length, getD, length-append}
 use borrow.Author.Tests.{leb-true, le-leb}
 use Rattle.codec.specs.Every.{every}
 use Rattle.codec.proofs.EveryLaws.{both, join, every-at, every-of}
 use Rattle.reset.specs.Config.{Config, places}
-use Rattle.reset.specs.Clock.{Clock}
-use Rattle.reset.specs.State.{Item, State, stationAt, linkAt, setLink}
-use Rattle.reset.proofs.Bounds.{Bounds, bounds, in-bounds}
-use Rattle.reset.specs.Steps.{phaseBounded, countBounded, linkBounded, inBounds}
+use Rattle.reset.specs.Clock.{Clock, vector}
+use Rattle.reset.specs.State.{Item, State, stationAt, linkAt, setLink, message, Station, setStation}
+use Rattle.reset.proofs.Formed.{Bounds, bounds, in-bounds}
+use Rattle.reset.specs.Steps.{phaseBounded, countBounded, linkBounded, inBounds, entered, sending, receiving, doEnter, doSend, doReceive}
 use Rattle.reset.proofs.Cases.{by-dec}
-use Rattle.reset.proofs.Views.{link-set, link-set-row, link-set-col}
-use mathlib.Core.List.{List, _∷_}
+use Rattle.reset.proofs.Views.{link-set, link-set-row, link-set-col, station-set, station-set-other, link-set-station, station-set-link}
+use mathlib.Core.List.{List, _∷_, [], _++_}
+use lib.Dec.{leb}
+use Rattle.codec.proofs.PutLaws.{put-same, put-other}
+use Rattle.clock.specs.Timestamp.{tick, merged, raised}
 
 -- the bounds of station i and of its links out
 unfoldable pub localBounds : {K : Clock} → Config → State K → ℕ → Bool
@@ -62,3 +66,75 @@ module _ {K : Clock} (c : Config) (s s′ : State K) (i : ℕ) (il : i < 8) (v :
   -- number 9 is met exactly when the station or one of its links out is beyond a bound
   pub local : inBounds c s′ ≡ localBounds c s′ i
   local = bool-iff (inBounds c s′) (localBounds c s′ i) (λ h. own (bounds c s′ h)) (λ h. in-bounds c s′ (kept h))
+
+-- ---- entries
+-- no count is above the greater of two that are at most t
+merged-within : (v w : List ℕ) (t k : ℕ) → getD v k 0 ≤ t → getD w k 0 ≤ t → getD (merged v w) k 0 ≤ t
+merged-within [] w t k h g = omega arith
+merged-within (a ∷ v) [] t k h g = h
+merged-within (a ∷ v) (b ∷ w) t zero h g = omega arith
+merged-within (a ∷ v) (b ∷ w) t (suc k) h g = merged-within v w t k h g
+
+module _ (c : Config) (s : State vector) (v : Bounds c s) (i : ℕ) (il : i < 8) where
+  abbrev time : List ℕ
+  time = stationAt s i .time
+
+  old-count : (k : ℕ) → k < 8 → getD time k 0 ≤ c .t
+  old-count k l = leb-true _ _ (v .counts i k il l)
+
+  ticked-count : (k : ℕ) → k < 8 → k ≢ i → getD (tick i time) k 0 ≤ c .t
+  ticked-count k l n = rw (put-other 0 time i k (suc (getD time i 0)) n) (old-count k l)
+
+  -- a state in which station i has other counts u, in the same phase: the own count +1, each other count at most t
+  module _ (s′ : State vector) (u : List ℕ) (same : stationAt s′ i .phase ≡ stationAt s i .phase) (now : stationAt s′ i .time ≡ u)
+      (own : getD u i 0 ≡ suc (getD time i 0)) (rest : (k : ℕ) → k < 8 → k ≢ i → getD u k 0 ≤ c .t)
+      (others : (k : ℕ) → k ≢ i → stationAt s′ k ≡ stationAt s k) (rows : (a b : ℕ) → a ≢ i → length (linkAt s′ a b) ≤ length (linkAt s a b)) where
+    counts : every 8 (countBounded c s′ i) ≡ leb (suc (getD time i 0)) (c .t)
+    counts =
+        bool-iff _ _ (λ h. rw (now, own) at (every-at 8 (countBounded c s′ i) i h il))
+        (λ h. every-of 8 (countBounded c s′ i) (λ k l. rw now (by-dec (ℕ-discrete k i) (λ p. rw (p, own) h) (λ p. le-leb (getD u k 0) (c .t) (rest k l p)))))
+
+    entry-bounds : inBounds c s′ ≡ (leb (suc (getD time i 0)) (c .t) && every 8 (linkBounded c s′ i))
+    unfolding localBounds
+    entry-bounds = let a : phaseBounded s′ i ≡ true = rw same (v .phases i il) in local c s s′ i il v others rows ∙ rw (a, counts)
+
+  -- ---- enter
+  pub enter-bounds : (g : ℕ) → inBounds c (doEnter i g s .after) ≡ leb (suc (getD (stationAt s i .time) i 0)) (c .t)
+  enter-bounds g =
+      let x : Station vector = entered i (stationAt s i) in
+      let s′ : State vector = setStation s i x in
+      let links : every 8 (linkBounded c s′ i) ≡ true = every-of 8 (linkBounded c s′ i) (λ j l. rw (link-set-station s i x i j) (v .links i j il l)) in
+      entry-bounds s′ (tick i time) (rw (station-set s i x)) (rw (station-set s i x)) (put-same 0 time i (suc (getD time i 0))) ticked-count
+      (λ k n. station-set-other s i x k n) (λ a b n. rw (link-set-station s i x a b) (omega arith)) ∙ rw links (and-true _)
+
+  -- ---- a message taken, whose counts are at most t
+  pub receive-bounds : (j : ℕ) (w : List ℕ) (g : ℕ) (q : List (Item vector)) → j < 8 → linkAt s j i ≡ message w g ∷ q → ((k : ℕ) → k < 8 → getD w k 0 ≤ c .t)
+      → j ≢ i → inBounds c (doReceive i j w g q s .after) ≡ leb (suc (getD (stationAt s i .time) i 0)) (c .t)
+  receive-bounds j w g q jl held small apart =
+      let x : Station vector = receiving i j w (stationAt s i) in
+      let t : State vector = setStation s i x in
+      let s′ : State vector = setLink t j i q in
+      let links : every 8 (linkBounded c s′ i) ≡ true
+      = every-of 8 (linkBounded c s′ i) (λ b l. rw (link-set-row t j i q i b (λ p. apart (sym p)), link-set-station s i x i b) (v .links i b il l)) in
+      entry-bounds s′ (raised i time w) (rw (station-set-link t j i q i, station-set s i x)) (rw (station-set-link t j i q i, station-set s i x))
+      (put-same 0 (merged time w) i (suc (getD time i 0)))
+      (λ k l n. rw (put-other 0 (merged time w) i k (suc (getD time i 0)) n) (merged-within time w (c .t) k (old-count k l) (small k l)))
+      (λ k n. station-set-link t j i q k ∙ station-set-other s i x k n)
+      (λ a b n. rw (link-set-station s i x a b) at (taken-shorter t j i (message w g) q (link-set-station s i x j i ∙ held) a b)) ∙ rw links (and-true _)
+
+  -- ---- send
+  pub send-bounds : (j g : ℕ) → j < 8
+      → inBounds c (doSend i j g s .after) ≡ (leb (suc (getD (stationAt s i .time) i 0)) (c .t) && leb (suc (length (linkAt s i j))) (places c i j))
+  send-bounds j g jl =
+      let x : Station vector = sending i j (stationAt s i) in
+      let t : State vector = setStation s i x in
+      let q : List (Item vector) = linkAt t i j ++ (message (tick i time) g ∷ []) in
+      let s′ : State vector = setLink t i j q in
+      let grown : length (linkAt s′ i j) ≡ suc (length (linkAt s i j)) = rw (link-set t i j q, length-append, link-set-station s i x i j) (omega arith) in
+      let links : every 8 (linkBounded c s′ i) ≡ leb (suc (length (linkAt s i j))) (places c i j)
+      = bool-iff _ _ (λ h. rw grown at (every-at 8 (linkBounded c s′ i) j h jl))
+      (λ h. every-of 8 (linkBounded c s′ i) (λ b l. by-dec (ℕ-discrete b j) (λ p. rw (p, grown) h)
+      (λ p. rw (link-set-col t i j q b p, link-set-station s i x i b) (v .links i b il l)))) in
+      entry-bounds s′ (tick i time) (rw (station-set-link t i j q i, station-set s i x)) (rw (station-set-link t i j q i, station-set s i x))
+      (put-same 0 time i (suc (getD time i 0))) ticked-count (λ k n. station-set-link t i j q k ∙ station-set-other s i x k n)
+      (λ a b n. rw (link-set-row t i j q a b n, link-set-station s i x a b) (omega arith)) ∙ rw links

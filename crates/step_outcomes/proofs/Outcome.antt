@@ -7,22 +7,20 @@ use mathlib.Core.List.{List, [], _∷_}
 use native.Mathlib.Omega.{arith}
 use lib.Dec.{leb}
 use lib.ListN.{getD, length}
-use borrow.Author.Tests.{le-leb, lt-leb, ltb-true}
+use borrow.Author.Tests.{le-leb, lt-leb}
 use Rattle.codec.specs.Every.{every}
 use Rattle.codec.proofs.EveryLaws.{both, every-at}
 use Rattle.reset.specs.Config.{Config, isStation, neighbours, limitAt, allowanceAt, places, wellMade}
-use Rattle.reset.proofs.ConfigLaws.{Rules, rules}
+use Rattle.reset.proofs.ConfigLaws.{Rules, rules, station-below, not-itself}
 use Rattle.reset.specs.Clock.{vector}
 use Rattle.reset.specs.State.{Item, message, Station, State, stationAt, linkAt, doneSeen, sentTo, setStation, setLink}
 use Rattle.reset.specs.Steps.{enter, send, recv, start, modeAfter, Outcome, refuse, guard, inBounds, bounded, doEnter, doSend, doReceive, doMark, doStart, settle, maySend, isNormal, beginReset, turn, receive, step}
 use Rattle.reset.proofs.Views.{station-set, station-set-link, link-set-row}
 use Rattle.reset.specs.WellFormed.{countsFit, itemFits, itemFitsAt, linkFits, wellFormed}
-use Rattle.reset.proofs.Formed.{Formed, formed-of, counts-small, station-counts, formed-bounds}
-use Rattle.reset.proofs.Bounds.{Bounds}
+use Rattle.reset.proofs.Formed.{Formed, formed-of, counts-small, station-counts, formed-bounds, Bounds}
 use Rattle.reset_rules.specs.Turn.{Turning, turned, started, putItems}
 use Rattle.reset_rules.proofs.TurnLaws.{set-link-set, turn-set, start-set}
-use Rattle.step_outcomes.proofs.Local.{taken-shorter}
-use Rattle.step_outcomes.proofs.Entries.{enter-bounds, receive-bounds, send-bounds}
+use Rattle.step_outcomes.proofs.Local.{taken-shorter, enter-bounds, receive-bounds, send-bounds}
 use Rattle.step_outcomes.proofs.Control.{roomFor, turned-within, started-within, control-bounds, station-put-items}
 
 module _ (c : Config) (s : State vector) (w : wellFormed c s ≡ true) where
@@ -36,14 +34,10 @@ module _ (c : Config) (s : State vector) (w : wellFormed c s ≡ true) where
   net = let p = both (wellMade c) _ (facts .accepted) in rules c (p .0) (p .1)
 
   pub station-small : (i : ℕ) → isStation c i ≡ true → i < 8
-  unfolding isStation
-  station-small i h = omega (arith, net .small, ltb-true i (c .n) h)
+  station-small i h = omega (arith, net .small, station-below c i h)
 
   pub neighbour-small : (i j : ℕ) → neighbours c i j ≡ true → j < 8
   neighbour-small i j h = omega (arith, net .small, net .inside i j h)
-
-  apart : (i j : ℕ) → neighbours c i j ≡ true → j ≢ i
-  apart i j h e = net .loopless i (rw e at h)
 
   -- ---- a test that fails, and one that holds
   passes : (t : Bool) (k : ℕ) (o : Outcome vector) → t ≡ false → guard s t k o ≡ o
@@ -212,7 +206,7 @@ module _ (c : Config) (s : State vector) (w : wellFormed c s ≡ true) where
               one l e h = every-at (length (message v g ∷ q)) (itemFitsAt c (message v g ∷ q)) 0 (rw e at h) (omega arith)
 
           bounded-by : inBounds c (doReceive i j v g q s .after) ≡ leb (suc (getD (stationAt s i .time) i 0)) (c .t)
-          bounded-by = receive-bounds c s inside i (station-small i h) j v g q (neighbour-small i j n) e message-small (apart i j n)
+          bounded-by = receive-bounds c s inside i (station-small i h) j v g q (neighbour-small i j n) e message-small (not-itself c net i j n)
 
           pub message-full : c .t ≤ getD (stationAt s i .time) i 0 → step c s (recv i j) ≡ refuse s 9
           message-full f = recv-left ∙ rw e (beyond (doReceive i j v g q s) _ bounded-by (lt-leb (suc (getD (stationAt s i .time) i 0)) (c .t) (omega arith)))
@@ -230,7 +224,7 @@ module _ (c : Config) (s : State vector) (w : wellFormed c s ≡ true) where
           s₁ = setLink s j i q
 
           out : (b : ℕ) → linkAt s₁ i b ≡ linkAt s i b
-          out b = link-set-row s j i q i b (λ p. apart i j n (sym p))
+          out b = link-set-row s j i q i b (λ p. not-itself c net i j n (sym p))
 
           rows : (a b : ℕ) → a ≢ i → length (linkAt s₁ a b) ≤ length (linkAt s a b)
           rows a b m = taken-shorter s j i y q e a b

@@ -18,7 +18,7 @@ use Rattle.rules.proofs.Laws.{accepted-well-made}
 use Rattle.area.specs.Layout.{configAt, stateAt, test}
 use Rattle.area.proofs.Formed.{formed-fits, image-passes}
 use Rattle.area_calls.specs.Calls.{setupOn, stepOn}
-use Rattle.area_calls.proofs.Demand3.{accepted}
+use Rattle.area_calls.proofs.Demand3.{setup-accepts as accepted}
 use Rattle.steps.specs.Answers.{steppedOf}
 use Rattle.steps.specs.Formed.{Does}
 use Rattle.steps.specs.declared.answer.Stepped.{Stepped}
