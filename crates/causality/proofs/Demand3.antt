@@ -1,9 +1,8 @@
 -- Demand 3 of document 01, proved. Assumes nothing.
 
-use mathlib.Core.Path.{_≡_, ap, _∙_}
+use mathlib.Core.Path.{ap, _∙_}
 use mathlib.Core.List.{List}
 use native.Mathlib.Omega.{arith}
-use lib.ListN.{length}
 use Rattle.reset.specs.Config.{Config}
 use Rattle.reset.proofs.ConfigLaws.{Rules, rules}
 use Rattle.reset.specs.Clock.{vector}
@@ -25,17 +24,14 @@ module _ (c : Config) (u : Rules c) (ps : List Step) where
       let h = run-history c u ps in
       record { follows = h .follows; small = λ y l. omega (arith, h .inside y l, u .small); phases = h .phases }
 
-  long : length (takens c (initial vector c) ps) ≡ length (accepted (log c (initial vector c) ps))
-  long = takens-long c (initial vector c) ps
-
   pub sound : Sound c ps
   sound =
       record {
         received-as-sent = as-sent _ _ run-trace;
         ordered = by-timestamp _ _ run-trace;
-        runs-plain = λ f. ap (plainTold plainInitial) (fed-entries f (log c (initial vector c) ps)) ∙ plain-tells _ _ run-trace long f;
+        runs-plain = λ f. ap (plainTold plainInitial) (fed-entries f (log c (initial vector c) ps)) ∙ plain-tells _ _ run-trace (takens-long c (initial vector c) ps) f;
         empty-when-left = λ f left i j.
-            rw (fed-entries f (log c (initial vector c) ps)) (plain-stands _ _ run-trace long f .queues i j ∙ none-under-way c u ps f left i j);
+            rw (fed-entries f (log c (initial vector c) ps)) (plain-stands _ _ run-trace (takens-long c (initial vector c) ps) f .queues i j ∙ none-under-way c u ps f left i j);
       }
 
 pub demand3 : Demand3

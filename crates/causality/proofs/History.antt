@@ -24,7 +24,7 @@ use Rattle.causality.specs.Plain.{Message, ofPhase, fed}
 use Rattle.causality.specs.HappenedBefore.{Accepted, withEntry, accepted, noEntry, entryAt, phaseOf, timestampOf, isSend, isRecv, count, GoesWith}
 use Rattle.causality.specs.Sound.{firstMessage, taken, withTaken, takens}
 use Rattle.causality.proofs.Trace.{recordStation, isOf, lastOf, countsBefore, those, underWay, Follows, own, sent, received, fedOf}
-use Rattle.causality.proofs.TraceLaws.{drop-head, those-length, Nth, those-nth, fewer, stays-under-way, sent-under-way, first-under-way}
+use Rattle.causality.proofs.TraceLaws.{drop-head, those-length, those-nth, fewer, stays-under-way, sent-under-way, first-under-way}
 use Rattle.reset.proofs.Cases.{by-test, by-dec, clash}
 
 -- a send's message as a link has it, with the phase that it was sent in
@@ -111,24 +111,20 @@ module _ (c : Config) (E : List Accepted) (T : List (List Message)) (s s′ : St
     Origin i j t = (x : ℕ) × (x < m) × (isSend j i (entryAt E x .step) ≡ true) × (count (isSend j i) E x ≡ count (isRecv j i) E m) × (tagOf (entryAt E x) ≡ t)
         × (map tagOf (underWay E j i (suc m)) ≡ waiting s′ j i)
 
-    origin-at : (i j : ℕ) → entryAt E m .step ≡ recv i j → (t : Tagged vector) → map tagOf (underWay E j i m) ≡ t ∷ waiting s′ j i
-        → Nth (isSend j i) E m (count (isRecv j i) E m) → Origin i j t
-    origin-at i j e t full (x, xl, sx, nx) =
-        let split : tagOf (entryAt E x) ∷ map tagOf (underWay E j i (suc m)) ≡ t ∷ waiting s′ j i =
-        ap (map tagOf) (sym (first-under-way E j i m x (is-from i j e) xl sx nx)) ∙ full in
-        (x, xl, sx, nx, cc, cc)
-
     origin : (i j : ℕ) → entryAt E m .step ≡ recv i j → (g : Way (recv i j)) → Origin i j (got i j g)
     origin i j e g =
-        origin-at i j e (got i j g) (first-got i j e g)
-        (those-nth (isSend j i) E m (count (isRecv j i) E m)
-        (omega (
+        let full = first-got i j e g in
+        let few : count (isRecv j i) E m < count (isSend j i) E m = omega (
           arith,
-          ap length (first-got i j e g),
+          ap length full,
           length-map (underWay E j i m) tagOf,
           length-drop (count (isRecv j i) E m) (those (isSend j i) E m),
           those-length (isSend j i) E m,
-        )))
+        ) in
+        let (x, xl, sx, nx) = those-nth (isSend j i) E m (count (isRecv j i) E m) few in
+        let split : tagOf (entryAt E x) ∷ map tagOf (underWay E j i (suc m)) ≡ got i j g ∷ waiting s′ j i =
+        ap (map tagOf) (sym (first-under-way E j i m x (is-from i j e) xl sx nx)) ∙ full in
+        (x, xl, sx, nx, cc, cc)
 
     -- the entry follows the clock rule
     new-follows : (p : Step) → entryAt E m .step ≡ p → Way p → Follows E T m
@@ -148,13 +144,11 @@ module _ (c : Config) (E : List Accepted) (T : List (List Message)) (s s′ : St
     new-follows (start i) e w = absurd w
 
     -- ---- the links after it
-    still : (a b : ℕ) → neighbours c a b ≡ true → sentOn s a b (entryAt E m .step) ≡ [] → gotOn s a b (entryAt E m .step) ≡ [] → waiting s a b ≡ waiting s′ a b
-    still a b n z y =
-        sym (append-nil _) ∙ ap (λ (l : List (Tagged vector)). waiting s a b ++ l) (sym z) ∙ en .log a b n ∙ ap (λ (l : List (Tagged vector)). l ++ waiting s′ a b) y
-
     unmoved : (a b : ℕ) → neighbours c a b ≡ true → isSend a b (entryAt E m .step) ≡ false → isRecv a b (entryAt E m .step) ≡ false
         → sentOn s a b (entryAt E m .step) ≡ [] → gotOn s a b (entryAt E m .step) ≡ [] → map tagOf (underWay E a b (suc m)) ≡ waiting s′ a b
-    unmoved a b n hs hr z y = ap (map tagOf) (stays-under-way E a b m hs hr) ∙ h .links a b n ∙ still a b n z y
+    unmoved a b n hs hr z y =
+        let l : waiting s a b ++ [] ≡ waiting s′ a b = rw (z, y) at (en .log a b n) in
+        ap (map tagOf) (stays-under-way E a b m hs hr) ∙ h .links a b n ∙ sym (append-nil _) ∙ l
 
     sent-tag : (i j g : ℕ) (w : Way (send i j g))
         → _≡_ {A = Tagged vector} (record { phase = stationAt s i .phase; load = tick i (stationAt s i .time); register = g }) (tagOf (entryAt E m))

@@ -10,11 +10,11 @@ use lib.ListN.{getD, drop, length, length-append, List·getD-append}
 use lib.Seq.{getD-at, drop-cons, drop-append-le}
 use borrow.Author.Tests.{eqb-true}
 use Rattle.codec.proofs.EveryLaws.{both}
+use Rattle.clock.specs.Timestamp.{tick, raised}
 use Rattle.reset.specs.Steps.{Step, enter, send, recv, start, stationOfStep}
 use Rattle.causality.specs.Plain.{Message}
 use Rattle.causality.specs.HappenedBefore.{Accepted, entryAt, stationOf, phaseOf, timestampOf, isSend, isRecv, count, GoesWith}
 use Rattle.causality.proofs.Trace.{recordStation, countsBefore, those, underWay, Follows, own, sent, received}
-use Rattle.clock.specs.Timestamp.{tick, raised}
 use Rattle.causality.specs.Sound.{sentMessage}
 use Rattle.reset.proofs.Cases.{by-test, by-dec, clash}
 

@@ -15,7 +15,7 @@ use Rattle.clock.specs.Timestamp.{zeros, tick, merged, raised}
 use Rattle.clock.proofs.MergeLaws.{merged-length, merged-at}
 use Rattle.reset.proofs.Views.{zeros-at}
 use Rattle.causality.specs.Plain.{Message}
-use Rattle.causality.specs.HappenedBefore.{Accepted, entryAt, stationOf, phaseOf, timestampOf, GoesWith, HappenedBefore, same-station, sent-received, chain}
+use Rattle.causality.specs.HappenedBefore.{Accepted, entryAt, phaseOf, timestampOf, GoesWith, HappenedBefore, same-station, sent-received, chain}
 use Rattle.causality.specs.Sound.{ReceivedAsSent, OrderedByTimestamp}
 use Rattle.causality.proofs.Trace.{recordStation, isOf, numberOf, lastOf, countsBefore, received, Trace}
 use Rattle.causality.proofs.TraceLaws.{goes-one, by-follows, follows-station}
@@ -146,26 +146,13 @@ module _ (E : List Accepted) (T : List (List Message)) (R : Trace E T) where
   as-sent y a b yl r = by-follows (R .follows y yl) (λ n e. clash (sym r ∙ n a b)) (λ x xl g p t e. (x, xl, g, p, t))
 
   -- ---- a trace is clocked
-  edge-up : (x y : ℕ) → Edge E x y → x < y
-  edge-up x y (stationed l m e) = l
-  edge-up x y (messaged g) = goes-says x y g .0
-
-  edge-ends : (x y : ℕ) → Edge E x y → y < length E
-  edge-ends x y (stationed l m e) = m
-  edge-ends x y (messaged g) = g .y-in
-
-  edge-later : (x y : ℕ) → Edge E x y → phaseOf E x ≤ phaseOf E y
-  edge-later x y (stationed l m e) = R .phases x y l m e
-  edge-later x y (messaged g) = omega (arith, goes-says x y g .1)
-
-  -- between two phases it stays at its station
-  edge-stays : (x y : ℕ) → Edge E x y → phaseOf E x ≢ phaseOf E y → recordStation E x ≡ recordStation E y
-  edge-stays x y (stationed l m e) n = e
-  edge-stays x y (messaged g) n = absurd (n (goes-says x y g .1))
-
-  edge-grow : (x y : ℕ) → Edge E x y → phaseOf E x ≡ phaseOf E y → (k : ℕ) → k ≢ recordStation E y → vc E x k ≤ vc E y k
-  edge-grow x y (stationed l m e) p k n = omega (arith, reach (recordStation E y) (phaseOf E y) y x k l (omega arith) e p, none-falls y k m)
-  edge-grow x y (messaged g) p k n = goes-says x y g .2 k n
+  -- an edge goes up, and never down in phase; between two phases it stays at its station, and within one no count of another station falls
+  edge-says : (x y : ℕ) → Edge E x y
+      → (x < y) × (y < length E) × (phaseOf E x ≤ phaseOf E y) × (phaseOf E x ≢ phaseOf E y → recordStation E x ≡ recordStation E y)
+      × (phaseOf E x ≡ phaseOf E y → (k : ℕ) → k ≢ recordStation E y → vc E x k ≤ vc E y k)
+  edge-says x y (stationed l m e) =
+      (l, m, R .phases x y l m e, λ n. e, λ p k n. omega (arith, reach (recordStation E y) (phaseOf E y) y x k l (omega arith) e p, none-falls y k m))
+  edge-says x y (messaged g) = let (l, p, d) = goes-says x y g in (l, g .y-in, omega arith, λ n. absurd (n p), λ q. d)
 
   rise : (x y k : ℕ) → x < y → y < length E → recordStation E x ≡ k → recordStation E y ≡ k → phaseOf E x ≡ phaseOf E y → vc E x k < vc E y k
   rise x y k l yl s t p =
@@ -189,11 +176,11 @@ module _ (E : List Accepted) (T : List (List Message)) (R : Trace E T) where
   pub clocked : Clocked (length E) (recordStation E) (phaseOf E) (vc E) (Edge E)
   clocked =
       record {
-        up = edge-up;
-        ends = edge-ends;
-        later = edge-later;
-        stays = edge-stays;
-        grow = edge-grow;
+        up = λ x y e. edge-says x y e .0;
+        ends = λ x y e. edge-says x y e .1;
+        later = λ x y e. edge-says x y e .2;
+        stays = λ x y e. edge-says x y e .3;
+        grow = λ x y e. edge-says x y e .4;
         local = λ x y l yl e. stationed l yl e;
         rise = rise;
         some = λ y yl. omega (arith, own-rises y yl);
@@ -201,16 +188,13 @@ module _ (E : List Accepted) (T : List (List Message)) (R : Trace E T) where
       }
 
   -- ---- happened-before goes by these edges: an entry's record bears the station that took its step
-  takes : (x : ℕ) → x < length E → stationOf E x ≡ recordStation E x
-  takes x xl = follows-station (R .follows x xl)
-
   pub to-chain : {x y : ℕ} → HappenedBefore E x y → Chain (Edge E) x y
-  to-chain (same-station l m e) = edge (stationed l m (sym (takes _ (omega arith)) ∙ e ∙ takes _ m))
+  to-chain (same-station l m e) = edge (stationed l m (sym (follows-station (R .follows _ (omega arith))) ∙ e ∙ follows-station (R .follows _ m)))
   to-chain (sent-received g) = edge (messaged g)
   to-chain (chain h k) = join (to-chain h) (to-chain k)
 
   pub from-chain : {x y : ℕ} → Chain (Edge E) x y → HappenedBefore E x y
-  from-chain (edge (stationed l m e)) = same-station l m (takes _ (omega arith) ∙ e ∙ sym (takes _ m))
+  from-chain (edge (stationed l m e)) = same-station l m (follows-station (R .follows _ (omega arith)) ∙ e ∙ sym (follows-station (R .follows _ m)))
   from-chain (edge (messaged g)) = sent-received g
   from-chain (join h k) = chain (from-chain h) (from-chain k)
 

@@ -11,9 +11,8 @@ use lib.ListN.{getD, drop, length}
 use borrow.Author.Tests.{eqb-true, eqb-false, eq-eqb, ne-eqb}
 use Rattle.codec.proofs.EveryLaws.{both}
 use Rattle.clock.specs.Timestamp.{tick, raised}
-use Rattle.reset.specs.Steps.{enter, send, recv}
 use Rattle.causality.specs.Plain.{Message, Plain, plainInitial, at₁, at₂, gives, plainTake, plainStep, Told, told, plainTold, plainAfter}
-use Rattle.causality.specs.HappenedBefore.{Accepted, noEntry, entryAt, phaseOf, timestampOf, isSend, isRecv, GoesWith}
+use Rattle.causality.specs.HappenedBefore.{Accepted, noEntry, entryAt, phaseOf, timestampOf, isSend, isRecv}
 use Rattle.causality.specs.Sound.{sentMessage, toldOf}
 use Rattle.causality.proofs.Trace.{recordStation, lastOf, countsBefore, underWay, fedOf, Follows, own, sent, received, Trace}
 use Rattle.causality.proofs.TraceLaws.{goes-on, by-follows, fewer, drop-head, stays-under-way, sent-under-way, first-under-way}
@@ -65,18 +64,15 @@ module _ (E : List Accepted) (T : List (List Message)) (R : Trace E T) (f : ℕ)
     unfolding at₁
     counted k = rw (eq-eqb (phaseOf E m) f p, h .counts k)
 
-    does-own : (g : ℕ) → entryAt E m .step ≡ enter (recordStation E m) g → getD T m [] ≡ [] → timestampOf E m ≡ tick (recordStation E m) (countsBefore E m) → Does m P
-    does-own g e t z = (
+    does : Follows E T m → Does m P
+    unfolding at₂
+    does (own g e t z) = (
       record { counts = at₁ (P .counts) (recordStation E m) (timestampOf E m); queue = P .queue },
       rw (e, t)
           (ap (λ (v : List ℕ). gives v [] (record { counts = at₁ (P .counts) (recordStation E m) v; queue = P .queue })) (ap (tick (recordStation E m)) before ∙ sym z)),
       record { counts = counted; queues = λ a b. h .queues a b ∙ sym (ap (messagesOf f) (stays-under-way E a b m (rw e) (rw e))) },
     )
-
-    does-send : (j : ℕ) → entryAt E m .step ≡ send (recordStation E m) j (entryAt E m .entry .register) → getD T m [] ≡ []
-        → timestampOf E m ≡ tick (recordStation E m) (countsBefore E m) → Does m P
-    unfolding at₂
-    does-send j e t z =
+    does (sent j e t z) =
         let i = recordStation E m in
         let after : List ℕ → Plain = λ v.
         record { counts = at₁ (P .counts) i v; queue = at₂ (P .queue) i j (P .queue i j ++ (record { counts = v; register = entryAt E m .entry .register } ∷ [])) } in (
@@ -91,11 +87,7 @@ module _ (E : List Accepted) (T : List (List Message)) (R : Trace E T) (f : ℕ)
                 (λ c. rw c (h .queues a b ∙ sym (ap (messagesOf f) (stays-under-way E a b m (rw (e, c)) (rw e)))));
           },
         )
-
-    does-receive : (j x : ℕ) → entryAt E m .step ≡ recv (recordStation E m) j → x < m → GoesWith E x m → phaseOf E x ≡ phaseOf E m
-        → getD T m [] ≡ sentMessage (entryAt E x) ∷ [] → timestampOf E m ≡ raised (recordStation E m) (countsBefore E m) (timestampOf E x) → Does m P
-    unfolding at₂
-    does-receive j x e xl g q t z =
+    does (received j x e xl g q t z) =
         let i = recordStation E m in
         let rest = messagesOf f (underWay E j i (suc m)) in
         let after : List ℕ → Plain = λ v. record { counts = at₁ (P .counts) i v; queue = at₂ (P .queue) j i rest } in (
@@ -118,11 +110,6 @@ module _ (E : List Accepted) (T : List (List Message)) (R : Trace E T) (f : ℕ)
         first =
             h .queues j (recordStation E m) ∙ ap (messagesOf f) (taken j (recordStation E m) (rw (e, eq-eqb j j refl, eq-eqb (recordStation E m) (recordStation E m) refl)))
             ∙ rw (eq-eqb (phaseOf E x) f (q ∙ p))
-
-    does : Follows E T m → Does m P
-    does (own g e t z) = does-own g e t z
-    does (sent j e t z) = does-send j e t z
-    does (received j x e xl g q t z) = does-receive j x e xl g q t z
 
 -- ---- over the whole trace
 -- from P on, which stands before the entries X, with the messages U that they took

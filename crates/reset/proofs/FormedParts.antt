@@ -4,7 +4,7 @@ use Prim.Native.Nat.{ℕ, zero, suc, _≤_, _<_}
 use mathlib.Core.Path.{_≡_, refl, sym, ap, _∙_}
 use mathlib.Core.Logic.{_≢_}
 use mathlib.Core.List.{List, [], _∷_, _++_}
-use mathlib.Core.Bool.{Bool, true, false, not, _&&_, _||_, true≢false}
+use mathlib.Core.Bool.{Bool, true, false, not, _&&_, true≢false}
 use native.Mathlib.Omega.{arith}
 use native.Mathlib.Decide.{ℕ-discrete}
 use lib.Dec.{eqb, leb}
@@ -22,16 +22,7 @@ use Rattle.reset.specs.State.{Item, resetReq, resetDone, Station, State,
 use Rattle.reset.specs.Steps.{begun, renewed, woken, beginReset, renew, wake, Rule, ruleA, ruleB, ruleC, noRule, ruleOf, apply, turnOnce, turn, entered, sending, receiving, withReq, withDone}
 use Rattle.reset.specs.WellFormed.{ofStation, countFits, countsFit, modeFits, phaseFits, ownFits, sentFitsTo, sentFits, marksFitFrom, marksFit, stationFits, itemFits, rowLong, shapeFits}
 use Rattle.reset.proofs.Views.{zeros-at, none-at, station-set, station-set-other, link-set-station, station-set-link, link-set, link-set-row, link-set-col}
-use Rattle.reset.proofs.Cases.{by-test, by-dec, clash}
-
--- ---- tests
-or-second : (a b : Bool) → (a || b) ≡ true → a ≡ false → b ≡ true
-or-second true b h e = clash e
-or-second false b h e = h
-
-or-by : (a b : Bool) → (a ≡ false → b ≡ true) → (a || b) ≡ true
-or-by true b f = refl
-or-by false b f = f refl
+use Rattle.reset.proofs.Cases.{by-test, by-dec}
 
 -- ---- counts: eight, and 0 for stations n and above
 pub record Counts (c : Config) (v : List ℕ) : Type 0 where
@@ -117,28 +108,20 @@ pub record Fits (c : Config) (i : ℕ) (x : Station vector) : Type 0 where
   pub dones : Marks c i (x .dones)
 
 module _ (c : Config) (i : ℕ) (x : Station vector) where
-  station-parts : stationFits c i x ≡ true
-      → (countsFit c (ofStation c i (c .t)) (x .time) ≡ true) × (ownFits c i x ≡ true) × (sentFits c i x ≡ true) × (marksFit c i x ≡ true)
-  unfolding stationFits
-  station-parts h =
-      let p = both (countsFit c (ofStation c i (c .t)) (x .time)) _ h in
-      let q = both (phaseFits c i x) _ (both (modeFits c i x) _ (p .1) .1) in
-      let r = both (ownFits c i x) _ (q .1) in
-      let z = both (sentFits c i x) _ (r .1) in
-      (p .0, r .0, z .0, z .1)
-
   pub fits-of : stationFits c i x ≡ true → Fits c i x
-  unfolding sentFits marksFit
+  unfolding stationFits sentFits marksFit
   fits-of h =
-      let p = station-parts h in
-      let s = both (eqb (length (x .sent)) 8) _ (p .2) in
-      let r = both (eqb (length (x .reqs)) 8) _ (p .3) in
+      let p = both (countsFit c (ofStation c i (c .t)) (x .time)) _ h in
+      let o = both (ownFits c i x) _ (both (phaseFits c i x) _ (both (modeFits c i x) _ (p .1) .1) .1) in
+      let a = both (eqb (length (x .sent)) 8 && every 8 (sentFitsTo c i x)) _ (o .1) in
+      let s = both (eqb (length (x .sent)) 8) _ (a .0) in
+      let r = both (eqb (length (x .reqs)) 8) _ (a .1) in
       let d = both (eqb (length (x .dones)) 8) _ (r .1) in
       let m : (j : ℕ) → j < 8 → neighbours c i j ≡ false → (not (reqSeen x j) ≡ true) × (not (doneSeen x j) ≡ true)
-      = λ j l e. both (not (reqSeen x j)) _ (or-second (neighbours c i j) _ (every-at 8 (marksFitFrom c i x) j (d .1) l) e) in
+      = λ j l e. both (not (reqSeen x j)) _ (rw e at (every-at 8 (marksFitFrom c i x) j (d .1) l)) in
       record {
         counts = counts-of c (x .time) _ (p .0);
-        own = leb-true _ _ (p .1);
+        own = leb-true _ _ (o .0);
         sent = record { eight = eqb-true _ _ (s .0); within = λ j l. leb-true _ _ (every-at 8 (sentFitsTo c i x) j (s .1) l) };
         reqs = record { eight = eqb-true _ _ (r .0); none-far = λ j l e. not-true _ (m j l e .0) };
         dones = record { eight = eqb-true _ _ (d .0); none-far = λ j l e. not-true _ (m j l e .1) };
@@ -157,7 +140,7 @@ module _ (c : Config) (i : ℕ) (x : Station vector) where
       (join (eqb (length (x .sent)) 8) _ (eq-eqb _ _ (h .sent .eight)) (every-of 8 (sentFitsTo c i x) (λ j l. le-leb _ _ (h .sent .within j l))))
       (join (eqb (length (x .reqs)) 8) _ (eq-eqb _ _ (h .reqs .eight))
       (join (eqb (length (x .dones)) 8) _ (eq-eqb _ _ (h .dones .eight))
-      (every-of 8 (marksFitFrom c i x) (λ j l. or-by (neighbours c i j) _ (λ z. rw (h .reqs .none-far j l z, h .dones .none-far j l z))))))))))
+      (every-of 8 (marksFitFrom c i x) (λ j l. by-test (neighbours c i j) (λ z. rw z) (λ z. rw (z, h .reqs .none-far j l z, h .dones .none-far j l z))))))))))
 
 -- ---- how the record changes
 module _ (c : Config) (i : ℕ) (x : Station vector) (h : Fits c i x) where

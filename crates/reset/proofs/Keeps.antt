@@ -4,8 +4,13 @@ use Prim.Native.Nat.{ℕ, suc, _≤_, _+_}
 use mathlib.Core.Path.{_≡_, refl, sym, ap, _∙_}
 use mathlib.Core.List.{List, [], _∷_, _++_, append-nil}
 use mathlib.Core.Bool.{Bool, true, not, _||_, false, cond}
+use mathlib.Core.Logic.{_≢_}
 use native.Mathlib.Omega.{arith}
+use native.Mathlib.Decide.{ℕ-discrete}
+use lib.Dec.{eqb}
+use borrow.Author.Tests.{eq-eqb, ne-eqb, eqb-true, eqb-false}
 use Rattle.codec.proofs.EveryLaws.{every-at}
+use Rattle.codec.proofs.PutLaws.{put-same, put-other}
 use Rattle.reset.specs.Config.{Config, neighbours}
 use Rattle.reset.proofs.ConfigLaws.{Rules, neighbour-small}
 use Rattle.reset.specs.Clock.{Clock}
@@ -17,11 +22,6 @@ use Rattle.reset.proofs.Changes.{muted, target, reqsTaken, donesTaken, 
 use Rattle.reset.proofs.Flow.{Flow, flow-reqs, flow-dones}
 use Rattle.reset.proofs.Invariant.{Invariant, Kept, kept-still, kept-then, Puts, puts-quiet, Carries, target-near, phase-near, puts-keeps, puts-waiting, puts-still, Takes, takes-keeps, takes-waiting, takes-still}
 use Rattle.reset.proofs.Cases.{clash, by-dec}
-use mathlib.Core.Logic.{_≢_}
-use native.Mathlib.Decide.{ℕ-discrete}
-use lib.Dec.{eqb}
-use borrow.Author.Tests.{eq-eqb, ne-eqb, eqb-true, eqb-false}
-use Rattle.codec.proofs.PutLaws.{put-same, put-other}
 
 every-neighbour-at : (c : Config) → Rules c → (i : ℕ) (p : ℕ → Bool) → everyNeighbour c i p ≡ true → (j : ℕ) → neighbours c i j ≡ true → p j ≡ true
 unfolding everyNeighbour

@@ -62,14 +62,8 @@ module _ (E : List Accepted) (b : ℕ) where
   unfolding blockRecords
   part-length = rw (length-take, length-drop, records-length)
 
-  part-few : length (blockRecords E b) ≤ 480
-  part-few = omega (arith, part-length)
-
   part-count : length (blockRecords E b) / 32 ≡ min 15 (length E - b * 15)
   part-count = omega (arith, part-length)
-
-  part-whole : length (blockRecords E b) % 32 ≡ 0
-  part-whole = omega (arith, part-length)
 
   -- record k of block b is entry 15 b + k
   part-record : (k : ℕ) → k < length (blockRecords E b) / 32 → take 32 (drop (k * 32) (blockRecords E b)) ≡ bytesOfEntry (entryAt E (b * 15 + k))
@@ -81,7 +75,7 @@ module _ (E : List Accepted) (b : ℕ) where
 
 made-length : (E : List Accepted) (b : ℕ) → length (madeBlock E b) ≡ 512
 unfolding madeBlock
-made-length E b = entries-laws.image-length (b + 1) (blockRecords E b) (part-few E b)
+made-length E b = entries-laws.image-length (b + 1) (blockRecords E b) (omega (arith, part-length E b))
 
 module _ (c : Config) (E : List Accepted) (w : wellMade c ≡ true) (few : length E ≤ 64424509425) (range : (k : ℕ) → k < length E → InRange c (entryAt E k .entry)) where
   a : List ℕ
@@ -99,20 +93,12 @@ module _ (c : Config) (E : List Accepted) (w : wellMade c ≡ true) (few : lengt
     unfolding entriesFit recordsFit
     part-fits =
         join (leb 1 (b + 1)) _ (le-leb 1 (b + 1) (omega arith))
-        (join (eqb (length (blockRecords E b) % 32) 0) _ (eq-eqb _ 0 (part-whole E b))
+        (join (eqb (length (blockRecords E b) % 32) 0) _ (eq-eqb _ 0 (omega (arith, part-length E b)))
         (every-of (length (blockRecords E b) / 32) (λ (k : ℕ). wellMadeRecord (take 32 (drop (k * 32) (blockRecords E b))))
         (λ (k : ℕ) (h : k < length (blockRecords E b) / 32). rw (part-record E b k h) (accepted-bytes c (entryAt E (b * 15 + k)) (range (b * 15 + k) (in-list k h))))))
 
     reads : entries-laws.Reads (b + 1) (blockRecords E b)
-    reads = entries-laws.reads-back (b + 1) (blockRecords E b) (part-few E b) some part-fits (omega arith)
-
-    made-accepted : wellMadeEntries (madeBlock E b) ≡ true
-    unfolding madeBlock
-    made-accepted = reads .accepted
-
-    made-number : numberOf (madeBlock E b) ≡ b + 1
-    unfolding madeBlock
-    made-number = reads .number-back
+    reads = entries-laws.reads-back (b + 1) (blockRecords E b) (omega (arith, part-length E b)) some part-fits (omega arith)
 
     made-count : countOf (madeBlock E b) ≡ min 15 (length E - b * 15)
     unfolding madeBlock
@@ -132,10 +118,10 @@ module _ (c : Config) (E : List Accepted) (w : wellMade c ≡ true) (few : lengt
         rw (made-record k q, parsed-bytes c (entryAt E (b * 15 + k)) (range (b * 15 + k) i)) (range (b * 15 + k) i .known))
 
     made-fits : blockFits (headerOf c) (c .limits) (b + 1) (eqb (b + 1) (blocksFor (length E))) (madeBlock E b) ≡ true
-    unfolding blockFits
+    unfolding blockFits madeBlock
     made-fits =
-        join (wellMadeEntries (madeBlock E b)) _ made-accepted
-        (join (eqb (numberOf (madeBlock E b)) (b + 1)) _ (eq-eqb _ _ made-number)
+        join (wellMadeEntries (madeBlock E b)) _ (reads .accepted)
+        (join (eqb (numberOf (madeBlock E b)) (b + 1)) _ (eq-eqb _ _ (reads .number-back))
         (join (eqb (b + 1) (blocksFor (length E)) || eqb (countOf (madeBlock E b)) 15) _
         (by-test (eqb (b + 1) (blocksFor (length E))) (λ e. rw e)
         (λ e. let n : b + 1 ≡ blocksFor (length E) → ⊥ = eqb-false _ _ e in rw e (eq-eqb (countOf (madeBlock E b)) 15 (omega (arith, made-count))))) made-known))
@@ -175,7 +161,7 @@ module _ (c : Config) (E : List Accepted) (w : wellMade c ≡ true) (few : lengt
   unfolding writeEntries madeBlock
   block-written b l d g =
       let n : length (blockRecords E b) ≡ 0 → ⊥ = λ e. omega (arith, some b l) in
-      rw (ne-eqb _ 0 n, le-ltb 480 (length (blockRecords E b)) (part-few E b), part-fits b l, le-ltb (length d) 512 g)
+      rw (ne-eqb _ 0 n, le-ltb 480 (length (blockRecords E b)) (omega (arith, part-length E b)), part-fits b l, le-ltb (length d) 512 g)
 
   -- ---- the archive
   tested : archiveTest a ≡ true

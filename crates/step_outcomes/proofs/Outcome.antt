@@ -2,26 +2,24 @@
 use Prim.Native.Nat.{ℕ, suc, _≤_, _<_}
 use mathlib.Core.Path.{_≡_, refl, sym, _∙_, ap}
 use mathlib.Core.Logic.{_≢_}
-use mathlib.Core.Bool.{Bool, true, false, not, _&&_}
+use mathlib.Core.Bool.{true, false, not, _&&_}
 use mathlib.Core.List.{List, [], _∷_}
 use native.Mathlib.Omega.{arith}
 use lib.Dec.{leb}
 use lib.ListN.{getD, length}
 use borrow.Author.Tests.{le-leb, lt-leb}
-use Rattle.codec.specs.Every.{every}
 use Rattle.codec.proofs.EveryLaws.{both, every-at}
 use Rattle.reset.specs.Config.{Config, isStation, neighbours, limitAt, allowanceAt, places, wellMade}
 use Rattle.reset.proofs.ConfigLaws.{Rules, rules, station-below, not-itself}
 use Rattle.reset.specs.Clock.{vector}
 use Rattle.reset.specs.State.{Item, message, Station, State, stationAt, linkAt, doneSeen, sentTo, setStation, setLink}
-use Rattle.reset.specs.Steps.{enter, send, recv, start, modeAfter, Outcome, refuse, guard, inBounds, bounded, doEnter, doSend, doReceive, doMark, doStart, settle, maySend, isNormal, beginReset, turn, receive, step}
+use Rattle.reset.specs.Steps.{enter, send, recv, start, modeAfter, refuse, guard, inBounds, bounded, doEnter, doSend, doReceive, doMark, doStart, settle, maySend, isNormal, beginReset, turn, receive, step}
 use Rattle.reset.proofs.Views.{station-set, station-set-link, link-set-row}
 use Rattle.reset.specs.WellFormed.{countsFit, itemFits, itemFitsAt, linkFits, wellFormed}
 use Rattle.reset.proofs.Formed.{Formed, formed-of, counts-small, station-counts, formed-bounds, Bounds}
 use Rattle.reset_rules.specs.Turn.{Turning, turned, started, putItems}
 use Rattle.reset_rules.proofs.TurnLaws.{set-link-set, turn-set, start-set}
-use Rattle.step_outcomes.proofs.Local.{taken-shorter, enter-bounds, receive-bounds, send-bounds}
-use Rattle.step_outcomes.proofs.Control.{roomFor, turned-within, started-within, control-bounds, station-put-items}
+use Rattle.step_outcomes.proofs.Local.{taken-shorter, enter-bounds, receive-bounds, send-bounds, roomFor, turned-within, started-within, control-bounds, station-put-items}
 
 module _ (c : Config) (s : State vector) (w : wellFormed c s ≡ true) where
   facts : Formed c s
@@ -39,125 +37,118 @@ module _ (c : Config) (s : State vector) (w : wellFormed c s ≡ true) where
   pub neighbour-small : (i j : ℕ) → neighbours c i j ≡ true → j < 8
   neighbour-small i j h = omega (arith, net .small, net .inside i j h)
 
-  -- ---- a test that fails, and one that holds
-  passes : (t : Bool) (k : ℕ) (o : Outcome vector) → t ≡ false → guard s t k o ≡ o
-  unfolding guard
-  passes t k o h = rw h
-
-  stops : (t : Bool) (k : ℕ) (o : Outcome vector) → t ≡ true → guard s t k o ≡ refuse s k
-  unfolding guard
-  stops t k o h = rw h
-
-  within : (o : Outcome vector) (t : Bool) → inBounds c (o .after) ≡ t → t ≡ true → bounded c s o ≡ o
-  unfolding bounded
-  within o t e h = passes _ 9 o (rw (e, h))
-
-  beyond : (o : Outcome vector) (t : Bool) → inBounds c (o .after) ≡ t → t ≡ false → bounded c s o ≡ refuse s 9
-  unfolding bounded
-  beyond o t e h = stops _ 9 o (rw (e, h))
-
   -- ---- enter
   module _ (i g : ℕ) where
     pub enter-no-station : isStation c i ≡ false → step c s (enter i g) ≡ refuse s 4
-    enter-no-station h = stops (not (isStation c i)) 4 _ (rw h)
+    unfolding guard
+    enter-no-station h = rw h
 
     module _ (h : isStation c i ≡ true) where
-      entered-past : step c s (enter i g) ≡ guard s (leb (allowanceAt c (stationAt s i .phase) i) (stationAt s i .own)) 6 (bounded c s (doEnter i g s))
-      entered-past = passes (not (isStation c i)) 4 _ (rw h)
-
       pub enter-used-up : allowanceAt c (stationAt s i .phase) i ≤ stationAt s i .own → step c s (enter i g) ≡ refuse s 6
-      enter-used-up u = entered-past ∙ stops _ 6 _ (le-leb _ _ u)
+      unfolding guard
+      enter-used-up u = rw (h, le-leb (allowanceAt c (stationAt s i .phase) i) (stationAt s i .own) u)
 
       module _ (u : stationAt s i .own < allowanceAt c (stationAt s i .phase) i) where
         enter-left : step c s (enter i g) ≡ bounded c s (doEnter i g s)
-        enter-left = entered-past ∙ passes _ 6 _ (lt-leb _ _ u)
+        unfolding guard
+        enter-left = rw (h, lt-leb (allowanceAt c (stationAt s i .phase) i) (stationAt s i .own) u)
 
         pub enter-full : c .t ≤ getD (stationAt s i .time) i 0 → step c s (enter i g) ≡ refuse s 9
-        enter-full f = enter-left ∙ beyond (doEnter i g s) _ (enter-bounds c s inside i (station-small i h) g) (lt-leb (suc (getD (stationAt s i .time) i 0)) (c .t) (omega arith))
+        unfolding guard bounded
+        enter-full f = enter-left ∙ rw (enter-bounds c s inside i (station-small i h) g, lt-leb (suc (getD (stationAt s i .time) i 0)) (c .t) (omega arith))
 
         pub enter-done : getD (stationAt s i .time) i 0 < c .t → step c s (enter i g) ≡ doEnter i g s
-        enter-done f = enter-left ∙ within (doEnter i g s) _ (enter-bounds c s inside i (station-small i h) g) (le-leb (suc (getD (stationAt s i .time) i 0)) (c .t) (omega arith))
+        unfolding guard bounded
+        enter-done f = enter-left ∙ rw (enter-bounds c s inside i (station-small i h) g, le-leb (suc (getD (stationAt s i .time) i 0)) (c .t) (omega arith))
 
   -- ---- send
   module _ (i j g : ℕ) where
     pub send-no-station : isStation c i ≡ false → step c s (send i j g) ≡ refuse s 4
-    send-no-station h = stops (not (isStation c i)) 4 _ (rw h)
+    unfolding guard
+    send-no-station h = rw h
 
     module _ (h : isStation c i ≡ true) where
       pub send-no-neighbour : neighbours c i j ≡ false → step c s (send i j g) ≡ refuse s 4
-      send-no-neighbour n = passes (not (isStation c i)) 4 _ (rw h) ∙ stops (not (neighbours c i j)) 4 _ (rw n)
+      unfolding guard
+      send-no-neighbour n = rw (h, n)
 
       module _ (n : neighbours c i j ≡ true) where
         pub send-forbidden : maySend (stationAt s i .mode) (doneSeen (stationAt s i) j) ≡ false → step c s (send i j g) ≡ refuse s 5
-        send-forbidden m = passes (not (isStation c i)) 4 _ (rw h) ∙ passes (not (neighbours c i j)) 4 _ (rw n) ∙ stops _ 5 _ (rw m)
+        unfolding guard
+        send-forbidden m = rw (h, n, m)
 
         module _ (m : maySend (stationAt s i .mode) (doneSeen (stationAt s i) j) ≡ true) where
-          send-allowed : step c s (send i j g) ≡ guard s (leb (limitAt c (stationAt s i .phase) i j) (sentTo (stationAt s i) j)) 6 (bounded c s (doSend i j g s))
-          send-allowed = passes (not (isStation c i)) 4 _ (rw h) ∙ passes (not (neighbours c i j)) 4 _ (rw n) ∙ passes _ 5 _ (rw m)
-
           pub send-used-up : limitAt c (stationAt s i .phase) i j ≤ sentTo (stationAt s i) j → step c s (send i j g) ≡ refuse s 6
-          send-used-up u = send-allowed ∙ stops _ 6 _ (le-leb _ _ u)
+          unfolding guard
+          send-used-up u = rw (h, n, m, le-leb (limitAt c (stationAt s i .phase) i j) (sentTo (stationAt s i) j) u)
 
           module _ (u : sentTo (stationAt s i) j < limitAt c (stationAt s i .phase) i j) where
-            send-left : step c s (send i j g) ≡ bounded c s (doSend i j g s)
-            send-left = send-allowed ∙ passes _ 6 _ (lt-leb _ _ u)
-
-            abbrev room : Bool
-            room = leb (suc (getD (stationAt s i .time) i 0)) (c .t) && leb (suc (length (linkAt s i j))) (places c i j)
-
-            send-bounded : inBounds c (doSend i j g s .after) ≡ room
-            send-bounded = send-bounds c s inside i (station-small i h) j g (neighbour-small i j n)
+            -- what is left to test: the own count, and the link's room
+            send-left : step c s (send i j g)
+                ≡ guard s (not (leb (suc (getD (stationAt s i .time) i 0)) (c .t) && leb (suc (length (linkAt s i j))) (places c i j))) 9 (doSend i j g s)
+            unfolding guard bounded
+            send-left =
+                rw (h, n, m, lt-leb (limitAt c (stationAt s i .phase) i j) (sentTo (stationAt s i) j) u, send-bounds c s inside i (station-small i h) j g (neighbour-small i j n))
 
             pub send-full : c .t ≤ getD (stationAt s i .time) i 0 → step c s (send i j g) ≡ refuse s 9
-            send-full f = send-left ∙ beyond (doSend i j g s) room send-bounded (rw (lt-leb (suc (getD (stationAt s i .time) i 0)) (c .t) (omega arith)))
+            unfolding guard
+            send-full f = send-left ∙ rw (lt-leb (suc (getD (stationAt s i .time) i 0)) (c .t) (omega arith))
 
             pub send-no-room : getD (stationAt s i .time) i 0 < c .t → places c i j ≤ length (linkAt s i j) → step c s (send i j g) ≡ refuse s 9
+            unfolding guard
             send-no-room f r =
-                send-left ∙ beyond (doSend i j g s) room send-bounded
-                (rw (le-leb (suc (getD (stationAt s i .time) i 0)) (c .t) (omega arith), lt-leb (suc (length (linkAt s i j))) (places c i j) (omega arith)))
+                send-left
+                ∙ rw (le-leb (suc (getD (stationAt s i .time) i 0)) (c .t) (omega arith), lt-leb (suc (length (linkAt s i j))) (places c i j) (omega arith))
 
             pub send-done : getD (stationAt s i .time) i 0 < c .t → length (linkAt s i j) < places c i j → step c s (send i j g) ≡ doSend i j g s
+            unfolding guard
             send-done f r =
-                send-left ∙ within (doSend i j g s) room send-bounded
-                (rw (le-leb (suc (getD (stationAt s i .time) i 0)) (c .t) (omega arith), le-leb (suc (length (linkAt s i j))) (places c i j) (omega arith)))
+                send-left
+                ∙ rw (le-leb (suc (getD (stationAt s i .time) i 0)) (c .t) (omega arith), le-leb (suc (length (linkAt s i j))) (places c i j) (omega arith))
 
   -- ---- a control item taken or a start: the record x of station i, and then the rules
   module _ (i : ℕ) (il : i < 8) (s₁ : State vector) (x : Station vector) (u : Turning vector)
       (stations : (k : ℕ) → stationAt s₁ k ≡ stationAt s k) (out : (b : ℕ) → linkAt s₁ i b ≡ linkAt s i b)
       (rows : (a b : ℕ) → a ≢ i → length (linkAt s₁ a b) ≤ length (linkAt s a b))
-      (small : (k : ℕ) → k < 8 → getD (u .station .time) k 0 ≤ c .t) where
+      (small : (k : ℕ) → k < 8 → getD (u .station .time) k 0 ≤ c .t)
+      (t : State vector) (e : turn c i t ≡ putItems c (setStation s₁ i (u .station)) i (u .items)) where
+    pub control-refused : (leb (u .station .phase) 999999 && roomFor c s i (length (u .items))) ≡ false → bounded c s (settle c i t) ≡ refuse s 9
+    unfolding guard bounded
+    control-refused h = rw (e, control-bounds c s s₁ inside i il stations out rows (u .station) small (u .items), h)
+
     -- the answer and the state that the rules lead to
-    abbrev turning : Outcome vector
-    turning = record { answer = modeAfter i (u .station .mode) (u .station .phase); after = putItems c (setStation s₁ i (u .station)) i (u .items) }
-
-    module _ (t : State vector) (e : turn c i t ≡ putItems c (setStation s₁ i (u .station)) i (u .items)) where
-      settled : settle c i t ≡ turning
-      settled = rw (e, station-put-items c i (setStation s₁ i (u .station)) (u .items) i, station-set s₁ i (u .station))
-
-      pub control-refused : (leb (u .station .phase) 999999 && roomFor c s i (length (u .items))) ≡ false → bounded c s (settle c i t) ≡ refuse s 9
-      control-refused h =
-          beyond (settle c i t) _ (ap (inBounds c) (ap (λ (o : Outcome vector). o .after) settled) ∙ control-bounds c s s₁ inside i il stations out rows (u .station) small (u .items)) h
-
-      pub control-done : (leb (u .station .phase) 999999 && roomFor c s i (length (u .items))) ≡ true → bounded c s (settle c i t) ≡ turning
-      control-done h =
-          within (settle c i t) _ (ap (inBounds c) (ap (λ (o : Outcome vector). o .after) settled) ∙ control-bounds c s s₁ inside i il stations out rows (u .station) small (u .items)) h ∙ settled
+    pub control-done : (leb (u .station .phase) 999999 && roomFor c s i (length (u .items))) ≡ true → bounded c s (settle c i t)
+        ≡ record { answer = modeAfter i (u .station .mode) (u .station .phase); after = putItems c (setStation s₁ i (u .station)) i (u .items) }
+    unfolding guard bounded
+    control-done h =
+        rw (
+          e,
+          control-bounds c s s₁ inside i il stations out rows (u .station) small (u .items),
+          h,
+          station-put-items c i (setStation s₁ i (u .station)) (u .items) i,
+          station-set s₁ i (u .station),
+        )
 
   -- ---- start
   module _ (i : ℕ) where
     pub start-no-station : isStation c i ≡ false → step c s (start i) ≡ refuse s 4
-    start-no-station h = stops (not (isStation c i)) 4 _ (rw h)
+    unfolding guard
+    start-no-station h = rw h
 
     module _ (h : isStation c i ≡ true) where
       pub start-forbidden : isNormal (stationAt s i .mode) ≡ false → step c s (start i) ≡ refuse s 5
-      start-forbidden m = passes (not (isStation c i)) 4 _ (rw h) ∙ stops _ 5 _ (rw m)
+      unfolding guard
+      start-forbidden m = rw (h, m)
 
       module _ (m : isNormal (stationAt s i .mode) ≡ true) where
         pub start-last : 999999 ≤ stationAt s i .phase → step c s (start i) ≡ refuse s 8
-        start-last p = passes (not (isStation c i)) 4 _ (rw h) ∙ passes _ 5 _ (rw m) ∙ stops _ 8 _ (le-leb _ _ p)
+        unfolding guard
+        start-last p = rw (h, m, le-leb 999999 (stationAt s i .phase) p)
 
         module _ (p : stationAt s i .phase < 999999) where
           start-left : step c s (start i) ≡ bounded c s (doStart c i s)
-          start-left = passes (not (isStation c i)) 4 _ (rw h) ∙ passes _ 5 _ (rw m) ∙ passes _ 8 _ (lt-leb _ _ p)
+          unfolding guard
+          start-left = rw (h, m, lt-leb 999999 (stationAt s i .phase) p)
 
           abbrev begins : Turning vector
           begins = started c i (stationAt s i)
@@ -179,15 +170,18 @@ module _ (c : Config) (s : State vector) (w : wellFormed c s ≡ true) where
   -- ---- recv
   module _ (i j : ℕ) where
     pub recv-no-station : isStation c i ≡ false → step c s (recv i j) ≡ refuse s 4
-    recv-no-station h = stops (not (isStation c i)) 4 _ (rw h)
+    unfolding guard
+    recv-no-station h = rw h
 
     module _ (h : isStation c i ≡ true) where
       pub recv-no-neighbour : neighbours c i j ≡ false → step c s (recv i j) ≡ refuse s 4
-      recv-no-neighbour n = passes (not (isStation c i)) 4 _ (rw h) ∙ stops (not (neighbours c i j)) 4 _ (rw n)
+      unfolding guard
+      recv-no-neighbour n = rw (h, n)
 
       module _ (n : neighbours c i j ≡ true) where
         recv-left : step c s (recv i j) ≡ receive c i j s (linkAt s j i)
-        recv-left = passes (not (isStation c i)) 4 _ (rw h) ∙ passes (not (neighbours c i j)) 4 _ (rw n)
+        unfolding guard
+        recv-left = rw (h, n)
 
         pub recv-empty : linkAt s j i ≡ [] → step c s (recv i j) ≡ refuse s 7
         recv-empty e = recv-left ∙ rw e
@@ -199,20 +193,20 @@ module _ (c : Config) (s : State vector) (w : wellFormed c s ≡ true) where
           message-small k l =
               let f = facts .link j i (neighbour-small i j n) (station-small i h) in
               let p = both (leb (length (linkAt s j i)) (places c j i)) _ f in
-              let a : itemFits c (message v g) ≡ true = one (linkAt s j i) e (p .1) in
+              let a : itemFits c (message v g) ≡ true
+              = every-at (length (message v g ∷ q)) (itemFitsAt c (message v g ∷ q)) 0 (rw e at (p .1)) (omega arith) in
               counts-small c (c .t) v (both (countsFit c (c .t) v) _ a .0) k l
-            where
-              one : (l : List (Item vector)) → l ≡ message v g ∷ q → every (length l) (itemFitsAt c l) ≡ true → itemFits c (message v g) ≡ true
-              one l e h = every-at (length (message v g ∷ q)) (itemFitsAt c (message v g ∷ q)) 0 (rw e at h) (omega arith)
 
           bounded-by : inBounds c (doReceive i j v g q s .after) ≡ leb (suc (getD (stationAt s i .time) i 0)) (c .t)
           bounded-by = receive-bounds c s inside i (station-small i h) j v g q (neighbour-small i j n) e message-small (not-itself c net i j n)
 
           pub message-full : c .t ≤ getD (stationAt s i .time) i 0 → step c s (recv i j) ≡ refuse s 9
-          message-full f = recv-left ∙ rw e (beyond (doReceive i j v g q s) _ bounded-by (lt-leb (suc (getD (stationAt s i .time) i 0)) (c .t) (omega arith)))
+          unfolding guard bounded
+          message-full f = recv-left ∙ rw (e, bounded-by, lt-leb (suc (getD (stationAt s i .time) i 0)) (c .t) (omega arith))
 
           pub message-done : getD (stationAt s i .time) i 0 < c .t → step c s (recv i j) ≡ doReceive i j v g q s
-          message-done f = recv-left ∙ rw e (within (doReceive i j v g q s) _ bounded-by (le-leb (suc (getD (stationAt s i .time) i 0)) (c .t) (omega arith)))
+          unfolding guard bounded
+          message-done f = recv-left ∙ rw (e, bounded-by, le-leb (suc (getD (stationAt s i .time) i 0)) (c .t) (omega arith))
 
         -- a control item y, which marks station i's record as x
         module _ (x : Station vector) (y : Item vector) (q : List (Item vector)) (e : linkAt s j i ≡ y ∷ q) (time : x .time ≡ stationAt s i .time)

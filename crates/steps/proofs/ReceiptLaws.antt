@@ -20,7 +20,7 @@ use Rattle.link.proofs.Laws.{places-most, parse-count, parse-item}
 use Rattle.reset_rules.specs.Turn.{Turning, putItems}
 use Rattle.reset_rules.specs.Slots.{turnedView}
 use Rattle.reset_rules.specs.declared.Turned.{Turned}
-use Rattle.step_outcomes.proofs.Control.{roomFor}
+use Rattle.step_outcomes.proofs.Local.{roomFor}
 use Rattle.area.specs.Layout.{image, linkBytes, stateAt}
 use Rattle.area.proofs.Formed.{link-read}
 use Rattle.area_edit.proofs.PartLaws.{link-held}

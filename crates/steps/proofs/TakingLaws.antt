@@ -23,7 +23,7 @@ use Rattle.reset_rules.specs.Turn.{Turning, turned, started}
 use Rattle.reset_rules.specs.Slots.{turnedView}
 use Rattle.reset_rules.specs.declared.Turned.{Turned}
 use Rattle.reset_rules.proofs.TurnLaws.{set-link-set}
-use Rattle.step_outcomes.proofs.Control.{roomFor}
+use Rattle.step_outcomes.proofs.Local.{roomFor}
 use Rattle.step_outcomes.proofs.Outcome as outcome
 use Rattle.area.specs.Layout.{image, linkBytes, configAt, stateAt, test}
 use Rattle.area.proofs.Formed.{imaged}
