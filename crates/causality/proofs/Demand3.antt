@@ -1,5 +1,4 @@
 -- Demand 3 of document 01, proved. Assumes nothing.
-
 use mathlib.Core.Path.{ap, _∙_}
 use mathlib.Core.List.{List}
 use native.Mathlib.Omega.{arith}

@@ -49,17 +49,15 @@ module _ {n : ℕ} {station phase : ℕ → ℕ} {vc : ℕ → ℕ → ℕ} {Edg
   along {b = b} (inl p) e = edge (subst (λ (z : ℕ). Edge z b) (sym p) e)
   along (inr c) e = join c (edge e)
 
-  back-step : (a b : ℕ) → a < n → ((y : ℕ) → y < b → Back a y) → Back a b
-  back-step a b al ih bl p le =
+  below : (m a b : ℕ) → a < n → b < m → Back a b
+  below zero a b al h bl p le = absurd (omega arith)
+  below (suc m) a b al h bl p le =
       by-dec (ℕ-discrete (station a) (station b))
       (λ t. by-dec (decLt a b) (λ l. inr (edge (C .local a b l bl t)))
       (λ l. by-dec (decLt b a) (λ g. absurd (omega (arith, C .rise b a (station a) g al (sym t) refl (sym p)))) (λ g. inl (omega arith))))
       (λ t. let (y, e, q, l) = C .from b (station a) bl t (omega (arith, C .some a al)) in
-      inr (along (ih y (C .up y b e) (omega (arith, C .up y b e)) (omega arith) (omega arith)) e))
-
-  below : (m a b : ℕ) → a < n → b < m → Back a b
-  below zero a b al h = absurd (omega arith)
-  below (suc m) a b al h = back-step a b al (λ y l. below m a y al (omega arith))
+      let k = C .up y b e in
+      inr (along (below m a y al (omega arith) (omega arith) (omega arith) (omega arith)) e))
 
   back : (a b : ℕ) → a < n → Back a b
   back a b al = below (suc b) a b al (omega arith)

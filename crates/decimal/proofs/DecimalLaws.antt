@@ -5,10 +5,9 @@ use mathlib.Core.Bool.{Bool, true, false, not, false≢true}
 use mathlib.Core.List.{List, [], _∷_, _++_, append-assoc, append-nil}
 use native.Mathlib.Omega.{arith}
 use native.Mathlib.Nat.{pow-suc, zero-add}
-use native.Mathlib.Decide.{decLt}
 use lib.Dec.{eqb, leb, ltb}
 use lib.ListN.{length, length-append}
-use borrow.Author.Tests.{ltb-true, ltb-false, lt-ltb, le-ltb, leb-true, le-leb, ne-eqb}
+use borrow.Author.Tests.{ltb-true, ltb-false, lt-ltb, le-ltb, leb-true, le-leb, eqb-false, ne-eqb, not-true}
 use Rattle.codec.proofs.EveryLaws.{both}
 use Rattle.decimal.specs.Decimal.{decimal, decimalIn, digit, allDigits, numeral, valueFrom, valueOf}
 
@@ -130,13 +129,7 @@ digits-behind v (x ∷ l) h e =
     digits-behind (v * 10 + (x - 48)) l (omega arith) (p .1) ∙ rw (digit-behind v x h (p .0), append-assoc)
 
 not-zero : (x : ℕ) → not (eqb x 48) ≡ true → 48 ≤ x → 0 < x - 48
-not-zero x e h = go (decLt 48 x)
-  where
-    go : Dec (48 < x) → 0 < x - 48
-    go (yes l) = omega arith
-    go (no l) =
-        let q : x ≡ 48 = omega arith in
-        absurd (false≢true (rw q at e))
+not-zero x e h = let d : x ≡ 48 → ⊥ = eqb-false x 48 (not-true (eqb x 48) e) in omega arith
 
 -- digits without leading zeros are the text of the number that they stand for
 pub numeral-decimal : (l : List ℕ) → numeral l ≡ true → decimal (valueOf l) ≡ l
