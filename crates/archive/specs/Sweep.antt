@@ -8,7 +8,7 @@ use lib.Dec.{eqb, leb, ltb}
 use lib.ListN.{getD}
 use Rattle.codec.specs.Num.{numAt}
 use Rattle.codec.specs.Every.{every}
-use Rattle.clock.specs.Range.{ceilingOf}
+use Rattle.clock.specs.Range.{lastPhase, ceilingOf}
 use Rattle.entries.specs.Entries.{recordOf}
 
 -- ---- the counts
@@ -51,7 +51,7 @@ abbrev pub spareTest : List ℕ → Bool
 spareTest l = eqb (numAt 4 l 12) 0
 
 abbrev pub phaseTest : List ℕ → Bool
-phaseTest l = leb (numAt 4 l 4) 999999
+phaseTest l = leb (numAt 4 l 4) lastPhase
 
 unfoldable pub recordTest : List ℕ → List ℕ → Bool
 recordTest f l = frontTest f l && spareTest l && phaseTest l

@@ -157,7 +157,7 @@ fn phases_fit(block: &[u8], count: usize) -> bool
     while k < count {
         let o = entries::start_of(k);
         let e = o + 32;
-        ok = ok & (codec::get32(&block[o..e], 4) <= 999999);
+        ok = ok & (codec::get32(&block[o..e], 4) <= clock::LAST_PHASE);
         k += 1;
     }
     ok
@@ -171,7 +171,7 @@ fn records_fit(known: &[u32; 256], block: &[u8], count: usize) -> bool
 {
     let seen = look(known, block, count);
     let fit = seen.right & (seen.spare == 0);
-    if seen.phases <= 999999 {
+    if seen.phases <= clock::LAST_PHASE {
         return fit;
     }
     fit & phases_fit(block, count)

@@ -14,9 +14,22 @@ use Rattle.reset.specs.Clock.{vector}
 use Rattle.reset.specs.State.{State, stationAt, linkAt}
 use Rattle.reset.specs.WellFormed.{shapeFits}
 use Rattle.rules.specs.Setup.{blockConfig, headerOf}
-use Rattle.station.specs.Image.{imageStation, parseStation, Ranged}
+use Rattle.station.specs.Image.{stationSize, imageStation, parseStation, Ranged}
 use Rattle.station.specs.Test.{stationTest}
-use Rattle.link.specs.Image.{Queue, imageLink, parseLink, linkTest, RangedLink}
+use Rattle.link.specs.Image.{linkSize, Queue, imageLink, parseLink, linkTest, RangedLink}
+
+-- ---- where the parts begin: the stations behind the header block, the links behind them, and the zeros behind those
+abbrev pub stationsFrom : ℕ
+stationsFrom = 512
+
+abbrev pub linksFrom : ℕ
+linksFrom = 888
+
+abbrev pub zerosFrom : ℕ
+zerosFrom = 46648
+
+abbrev pub areaSize : ℕ
+areaSize = 65536
 
 -- ---- the image of a state
 -- link number k
@@ -28,10 +41,10 @@ image c s = imageHeader (headerOf c) (c .limits) ++ (rows imageStation (upto 8 (
 
 -- ---- the state that an area stands for
 unfoldable pub stationBytes : List ℕ → ℕ → List ℕ
-stationBytes a i = take 47 (drop (512 + i * 47) a)
+stationBytes a i = take stationSize (drop (stationsFrom + i * stationSize) a)
 
 unfoldable pub linkBytes : List ℕ → ℕ → List ℕ
-linkBytes a k = take 715 (drop (888 + k * 715) a)
+linkBytes a k = take linkSize (drop (linksFrom + k * linkSize) a)
 
 unfoldable pub configAt : List ℕ → Config
 configAt a = blockConfig (take 512 a)
@@ -57,10 +70,10 @@ unfoldable pub linksTest : Config → List ℕ → Bool
 linksTest c a = every 64 (linkTestAt c a)
 
 unfoldable pub partsTest : Config → List ℕ → Bool
-partsTest c a = networkRules c && (stationsTest c a && (linksTest c a && allZero (drop 46648 a)))
+partsTest c a = networkRules c && (stationsTest c a && (linksTest c a && allZero (drop zerosFrom a)))
 
 unfoldable pub test : List ℕ → Bool
-test a = eqb (length a) 65536 && (wellMadeHeader (take 512 a) && partsTest (configAt a) a)
+test a = eqb (length a) areaSize && (wellMadeHeader (take 512 a) && partsTest (configAt a) a)
 
 -- ---- states that have an image of their own: every list has its length and every number fits its bytes
 pub record Imaged (c : Config) (s : State vector) : Type 0 where

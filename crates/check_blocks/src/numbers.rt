@@ -12,7 +12,12 @@ fn two(at: usize, x: u16)
     let mut d = [9u8; 8];
     codec::put16(&mut d, at, x);
     let y = codec::get16(&d, at);
-    check_vectors::bytes(b"two bytes ", check_vectors::wide16(x), check_vectors::wide16(y), &d);
+    check_vectors::bytes(
+        b"two bytes ",
+        check_vectors::wide16(x),
+        check_vectors::wide16(y),
+        &d,
+    );
 }
 
 fn four(at: usize, x: u32)
@@ -221,11 +226,18 @@ fn zero_tests() {
         b"no bytes are zeros: ",
         check_vectors::one(codec::zeros(&d[0..0])),
     );
-    check_vectors::say(b"sixteen zeros are zeros: ", check_vectors::one(codec::zeros(&d)));
+    check_vectors::say(
+        b"sixteen zeros are zeros: ",
+        check_vectors::one(codec::zeros(&d)),
+    );
 }
 
 fn found_line(x: u8) {
-    check_vectors::item(b"no zeros by one byte at ", check_vectors::wide(x), found(x));
+    check_vectors::item(
+        b"no zeros by one byte at ",
+        check_vectors::wide(x),
+        found(x),
+    );
 }
 
 pub fn run() {

@@ -1,6 +1,6 @@
 // Answers, as lines.
-use record::Record;
 use quiescence::RestAnswer;
+use record::Record;
 use station::Mode;
 use steps::answer::Answer;
 use steps::answer::Stepped;

@@ -204,7 +204,9 @@ fn no_counts(good: &[u8]) -> u64 {
     let mut n: u64 = 0;
     let mut k = 0;
     while k < 15 {
-        n += check_vectors::one(check_vectors::resealed(2, good, 32 + k * 32 + 2 * (k % 8), 0) == 1);
+        n += check_vectors::one(
+            check_vectors::resealed(2, good, 32 + k * 32 + 2 * (k % 8), 0) == 1,
+        );
         k += 1;
     }
     n

@@ -109,7 +109,9 @@ fn crossed(x: u16, answer: u8) -> u64 {
     let mut n: u64 = 0;
     let mut i = 0;
     while i < 8 {
-        n += check_vectors::one(verdict(own(3, 7, fives(i, x)), own(6, 7, fives(i + 1, x))) == answer);
+        n += check_vectors::one(
+            verdict(own(3, 7, fives(i, x)), own(6, 7, fives(i + 1, x))) == answer,
+        );
         i += 1;
     }
     n
@@ -140,7 +142,10 @@ fn orders() {
 // A verdict reads phases and counts alone.
 fn others() {
     let a = verdict(records::full(2, 0, 1), own(0, 999999, [1u16; 8]));
-    check_vectors::say(b"verdict of other kinds and registers: ", check_vectors::wide(a));
+    check_vectors::say(
+        b"verdict of other kinds and registers: ",
+        check_vectors::wide(a),
+    );
 }
 
 // Refusals: other phases, a station 8, an own count 0, and 1 before 10; a phase past the greatest.

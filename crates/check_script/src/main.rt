@@ -1,7 +1,7 @@
 // Prints what each line of the input says, and then lines of turnover's output with values at their ends.
-use turnover_input::command::Command;
 use libc::STDIN_FILENO;
 use libc::STDOUT_FILENO;
+use turnover_input::command::Command;
 use turnover_input::lines::Filled;
 ghost use mathlib.Core.Path.{_≡_};
 ghost use Prim.Native.Nat.{_<_, _≤_};

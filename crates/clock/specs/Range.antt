@@ -1,10 +1,14 @@
--- Counts in range. Assumes nothing.
+-- Phases and counts in range. Assumes nothing.
 use Prim.Native.Nat.{ℕ}
 use mathlib.Core.Bool.{Bool, cond}
 use mathlib.Core.List.{List}
 use lib.Dec.{leb, ltb}
 use lib.ListN.{getD}
 use Rattle.codec.specs.Every.{every}
+
+-- phases go from 0 to this one
+abbrev pub lastPhase : ℕ
+lastPhase = 999999
 
 -- t for a station below n, else 0
 abbrev pub ceilingOf : ℕ → ℕ → ℕ → ℕ

@@ -6,6 +6,9 @@ ghost use Rattle.clock.specs.Timestamp.{tick, merged, raised};
 ghost use Rattle.clock.specs.Order.{byFlags, verdictOf};
 ghost use Rattle.clock.specs.Range.{ceilingOf, countsFit};
 
+// The last phase: timestamps start again in each.
+pub const LAST_PHASE: u32 = 999999;
+
 // How the first of two timestamps stands to the second. Unordered: concurrent.
 pub enum Verdict {
     Before,

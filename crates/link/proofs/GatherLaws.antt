@@ -15,7 +15,7 @@ use Rattle.codec.proofs.FlagLaws.{every-both}
 use Rattle.clock.specs.Timestamp.{merged}
 use Rattle.clock.specs.Range.{ceilingOf, countsFit as fit}
 use Rattle.clock.proofs.MergeLaws.{merged-at}
-use Rattle.reset.specs.Views.{all-same}
+use Rattle.reset.proofs.Views.{all-same}
 use Rattle.reset.specs.Config.{isStation}
 use Rattle.reset.specs.WellFormed.{countsFit}
 use Rattle.link.specs.Image.{itemTest, sized}

@@ -14,6 +14,19 @@ use Rattle.reset.specs.State.{Item, message, resetReq, resetDone}
 use Rattle.reset.specs.WellFormed.{countsFit}
 use Rattle.link.specs.declared.Item as declared
 
+-- ---- sizes in bytes: of an item, of all places of a link, and of a link, whose first byte is the count of its items
+abbrev pub itemSize : ℕ
+itemSize = 21
+
+abbrev pub mostItems : ℕ
+mostItems = 34
+
+abbrev pub placesSize : ℕ
+placesSize = 714
+
+abbrev pub linkSize : ℕ
+linkSize = 715
+
 -- ---- an item
 -- by its kind, its register number and its counts: kind 2 is reset_req, 3 reset_done, any other a message
 unfoldable pub itemOf : ℕ → ℕ → List ℕ → Item vector
@@ -47,11 +60,11 @@ Queue = List (Item vector)
 
 -- its 715 bytes, however long it is
 unfoldable pub imageLink : Queue → List ℕ
-imageLink q = length q ∷ take 714 (rows imageItem q ++ blank 714)
+imageLink q = length q ∷ take placesSize (rows imageItem q ++ blank placesSize)
 
 -- the 21 bytes of place k
 abbrev pub placeAt : List ℕ → ℕ → List ℕ
-placeAt l k = take 21 (drop (1 + k * 21) l)
+placeAt l k = take itemSize (drop (1 + k * itemSize) l)
 
 -- the item at place k
 unfoldable pub itemAt : List ℕ → ℕ → Item vector
@@ -70,7 +83,7 @@ itemsTest m c l = leb (getD l 0 0) m && every (getD l 0 0) (itemTestAt c l)
 
 -- and zeros after the last
 unfoldable pub queueTest : ℕ → Config → List ℕ → Bool
-queueTest m c l = leb (getD l 0 0) m && (every (getD l 0 0) (itemTestAt c l) && allZero (drop (1 + getD l 0 0 * 21) l))
+queueTest m c l = leb (getD l 0 0) m && (every (getD l 0 0) (itemTestAt c l) && allZero (drop (1 + getD l 0 0 * itemSize) l))
 
 -- 715 bytes are a queue in range for the link from i to j
 unfoldable pub linkTest : Config → ℕ → ℕ → List ℕ → Bool
@@ -89,5 +102,5 @@ RangedItem resetDone = Unit
 
 -- a queue that fits the places, of such items
 pub record RangedLink (q : Queue) : Type 0 where
-  pub most : length q ≤ 34
+  pub most : length q ≤ mostItems
   pub items : (k : ℕ) → k < length q → RangedItem (getD q k resetReq)

@@ -9,7 +9,19 @@ ghost use Rattle.codec.specs.Num.{bytesOf, numsOf};
 ghost use Rattle.codec.specs.Every.{blank, allZero};
 ghost use Rattle.reset.specs.Clock.{vector};
 ghost use Rattle.reset.specs.State as state;
-ghost use Rattle.link.specs.Image.{Queue, itemView, imageItem, parseItem, imageLink, itemAt, itemsTest, sized};
+ghost use Rattle.link.specs.Image.{itemSize, mostItems, linkSize, Queue, itemView, imageItem, parseItem, imageLink, itemAt, itemsTest, sized};
+
+// A link's part, and an item's place in it, in bytes.
+pub const SIZE: usize = 715;
+
+pub const ITEM_SIZE: usize = 21;
+
+// Kinds of items.
+pub const MESSAGE: u8 = 1;
+
+pub const RESET_REQ: u8 = 2;
+
+pub const RESET_DONE: u8 = 3;
 
 // Kind 1 is a message, 2 reset_req, 3 reset_done; the register number and the counts are a message's.
 pub struct Item {
@@ -20,7 +32,7 @@ pub struct Item {
 
 // The item in a place of 21 bytes.
 fn load(part: &[u8]) -> Item
-    requires { ⌜ length (now part) ≡ 21 ⌝ }
+    requires { ⌜ length (now part) ≡ itemSize ⌝ }
     ensures { λ r. ⌜ itemView r ≡ parseItem (now (part .entry)) ⌝ }
 {
     let counts = codec::get_row(part, 5);
@@ -33,7 +45,7 @@ fn load(part: &[u8]) -> Item
 
 // Fills a place of 21 bytes: kind, register number, counts.
 fn store_fields(part: &mut [u8], kind: u8, register: u32, counts: [u16; 8])
-    requires { ⌜ length (now part) ≡ 21 ⌝ }
+    requires { ⌜ length (now part) ≡ itemSize ⌝ }
     ensures { λ _. ⌜ now (part .exit) ≡ (kind ∷ []) ++ bytesOf 4 register ++ numsOf 2 8 counts ⌝ }
 {
     codec::put32(part, 1, register);
@@ -43,31 +55,31 @@ fn store_fields(part: &mut [u8], kind: u8, register: u32, counts: [u16; 8])
 
 // Writes an item into a place of 21 bytes.
 fn store(part: &mut [u8], x: Item)
-    requires { ⌜ length (now part) ≡ 21 ⌝ }
+    requires { ⌜ length (now part) ≡ itemSize ⌝ }
     ensures { λ _. ⌜ now (part .exit) ≡ imageItem (itemView x) ⌝ }
 {
     let kind = x.kind;
-    if (kind == 2) | (kind == 3) {
+    if (kind == RESET_REQ) | (kind == RESET_DONE) {
         store_fields(part, kind, 0, [0u16; 8]);
         return;
     }
     let counts = x.counts;
-    store_fields(part, 1, x.register, counts);
+    store_fields(part, MESSAGE, x.register, counts);
 }
 
 // A place of 21 bytes holds a control item: all but its kind is 0.
 fn is_control(part: &[u8]) -> bool
-    requires { ⌜ length (now part) ≡ 21 ⌝ }
+    requires { ⌜ length (now part) ≡ itemSize ⌝ }
     ensures { λ r. ⌜ r ≡ ((eqb (getD (now (part .entry)) 0 0) 2 || eqb (getD (now (part .entry)) 0 0) 3) && allZero (drop 1 (now (part .entry)))) ⌝ }
 {
     let kind = part[0];
-    ((kind == 2) | (kind == 3)) & codec::zeros(&part[1..])
+    ((kind == RESET_REQ) | (kind == RESET_DONE)) & codec::zeros(&part[1..])
 }
 
 // The part holds at most `places` items, each in range. What stands behind them is not looked at. The greatest counts of all
 // messages are tested, once.
 pub fn items_fit(places: u8, n: u8, t: u16, part: &[u8]) -> bool
-    requires { ⌜ (length (now part) ≡ 715) × (places ≤ 34) ⌝ }
+    requires { ⌜ (length (now part) ≡ linkSize) × (places ≤ mostItems) ⌝ }
     ensures { λ r. ⌜ r ≡ itemsTest places (sized n t) (now (part .entry)) ⌝ }
 {
     let b = part[0];
@@ -78,10 +90,10 @@ pub fn items_fit(places: u8, n: u8, t: u16, part: &[u8]) -> bool
     let mut most = [0u16; 8];
     let mut k = 0;
     while k < count {
-        let o = 1 + k * 21;
-        let e = o + 21;
+        let o = 1 + k * ITEM_SIZE;
+        let e = o + ITEM_SIZE;
         let item = &part[o..e];
-        if item[0] == 1 {
+        if item[0] == MESSAGE {
             let more = clock::merge(most, codec::get_row(item, 5));
             most = more;
             k += 1;
@@ -97,7 +109,7 @@ pub fn items_fit(places: u8, n: u8, t: u16, part: &[u8]) -> bool
 
 // The first item, which stays.
 pub fn first(part: &[u8]) -> Item
-    requires { ⌜ length (now part) ≡ 715 ⌝ }
+    requires { ⌜ length (now part) ≡ linkSize ⌝ }
     ensures { λ r. ⌜ itemView r ≡ itemAt (now (part .entry)) 0 ⌝ }
 {
     load(&part[1..22])
@@ -105,13 +117,13 @@ pub fn first(part: &[u8]) -> Item
 
 // Puts an item behind the others.
 pub fn push(part: &mut [u8], x: Item)
-    requires { ⌜ (length (now part) ≡ 715) × (getD (now part) 0 0 < 34) ⌝ }
+    requires { ⌜ (length (now part) ≡ linkSize) × (getD (now part) 0 0 < mostItems) ⌝ }
     ensures { λ _. ⌜ ((q : Queue) → now (part .entry) ≡ imageLink q → now (part .exit) ≡ imageLink (q ++ (itemView x ∷ []))) ⌝ }
 {
     let b = part[0];
     let count = b as usize;
-    let o = 1 + count * 21;
-    let e = o + 21;
+    let o = 1 + count * ITEM_SIZE;
+    let e = o + ITEM_SIZE;
     store(&mut part[o..e], x);
     part[0] = b + 1;
 }
@@ -141,12 +153,12 @@ fn drop_front(d: &mut [u8], k: usize)
 
 // Takes the first item off; only the places in use are moved.
 pub fn pop(part: &mut [u8])
-    requires { ⌜ (length (now part) ≡ 715) × (0 < getD (now part) 0 0) × (getD (now part) 0 0 ≤ 34) ⌝ }
+    requires { ⌜ (length (now part) ≡ linkSize) × (0 < getD (now part) 0 0) × (getD (now part) 0 0 ≤ mostItems) ⌝ }
     ensures { λ _. ⌜ ((x : state.Item vector) (q : Queue) → now (part .entry) ≡ imageLink (x ∷ q) → now (part .exit) ≡ imageLink q) ⌝ }
 {
     let b = part[0];
     let count = b as usize;
-    let e = 1 + count * 21;
-    drop_front(&mut part[1..e], 21);
+    let e = 1 + count * ITEM_SIZE;
+    drop_front(&mut part[1..e], ITEM_SIZE);
     part[0] = b - 1;
 }

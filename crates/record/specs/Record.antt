@@ -5,6 +5,7 @@ use mathlib.Core.Bool.{Bool, not, _&&_, _||_}
 use lib.Dec.{eqb, leb, ltb}
 use lib.ListN.{length, getD}
 use Rattle.codec.specs.Num.{bytesOf, numAt, numsOf, numsAt}
+use Rattle.clock.specs.Range.{lastPhase}
 use Rattle.record.specs.declared.Record.{Record}
 
 -- the peer of an own event is 255, that of a sent or received one another station below 8
@@ -14,7 +15,7 @@ peerFits kind station peer = (eqb kind 1 && eqb peer 255) || ((eqb kind 2 || eqb
 -- station, kind, peer and phase are in range, and the station's own count is at least 1
 unfoldable pub recordFits : Record → Bool
 recordFits r =
-    ltb (r .station) 8 && (peerFits (r .kind) (r .station) (r .peer) && (leb (r .phase) 999999 && leb 1 (getD (r .counts) (r .station) 0)))
+    ltb (r .station) 8 && (peerFits (r .kind) (r .station) (r .peer) && (leb (r .phase) lastPhase && leb 1 (getD (r .counts) (r .station) 0)))
 
 -- the 32 bytes of a record; byte 3 and bytes 12 to 15 are spare
 unfoldable pub imageRecord : Record → List ℕ

@@ -44,7 +44,7 @@ pub fn record_fits(r: Record) -> bool
     }
     let i = station as usize;
     let counts = r.counts;
-    peer_fits(r.kind, station, r.peer) & ((r.phase <= 999999) & (1 <= counts[i]))
+    peer_fits(r.kind, station, r.peer) & ((r.phase <= clock::LAST_PHASE) & (1 <= counts[i]))
 }
 
 pub fn load(s: &[u8]) -> Record
@@ -113,5 +113,5 @@ pub fn well_made(s: &[u8]) -> bool
     let station = s[1];
     let i = station as usize;
     peer_fits(s[0], station, s[2])
-        & ((codec::get32(s, 4) <= 999999) & (1 <= codec::get16(s, 16 + i * 2)))
+        & ((codec::get32(s, 4) <= clock::LAST_PHASE) & (1 <= codec::get16(s, 16 + i * 2)))
 }

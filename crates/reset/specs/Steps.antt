@@ -7,6 +7,7 @@ use lib.ListN.{getD, length}
 use Rattle.codec.specs.Every.{every, some}
 use Rattle.codec.specs.Put.{put}
 use Rattle.clock.specs.Timestamp.{zeros}
+use Rattle.clock.specs.Range.{lastPhase}
 use Rattle.reset.specs.Config.{Config, isStation, neighbours, limitAt, allowanceAt, places}
 use Rattle.reset.specs.Clock.{Clock}
 use Rattle.reset.specs.State.{Mode, normal, mute, standBy, Item, message, resetReq, resetDone, Station, State, noneSeen, stationAt, linkAt, reqSeen, doneSeen, sentTo, withTime, withMode, withPhase, withOwn, withSent, withReqs, withDones, setStation, setLink, putOn, putOnAll}
@@ -126,7 +127,7 @@ guard s false k o = o
 
 -- the phase of station i at most 999,999; its count k at most t; the items on the link from i to j no more than its places
 abbrev pub phaseBounded : {K : Clock} → State K → ℕ → Bool
-phaseBounded s i = leb (stationAt s i .phase) 999999
+phaseBounded s i = leb (stationAt s i .phase) lastPhase
 
 abbrev pub countBounded : {K : Clock} → Config → State K → ℕ → ℕ → Bool
 countBounded {K} c s i k = leb (getD (K .stamp i (stationAt s i .time)) k 0) (c .t)
@@ -239,5 +240,5 @@ step c s (recv i j) =
 step c s (start i) =
     guard s (not (isStation c i)) 4
     (guard s (not (isNormal (stationAt s i .mode))) 5
-    (guard s (leb 999999 (stationAt s i .phase)) 8
+    (guard s (leb lastPhase (stationAt s i .phase)) 8
     (bounded c s (doStart c i s))))

@@ -6,6 +6,7 @@ use mathlib.Core.Bool.{Bool, true, not, cond, _&&_, _||_}
 use lib.Dec.{eqb, leb}
 use lib.ListN.{getD, length}
 use Rattle.codec.specs.Every.{every}
+use Rattle.clock.specs.Range.{lastPhase}
 use Rattle.reset.specs.Config.{Config, isStation, neighbours, limitAt, allowanceAt, places, wellMade, networkRules}
 use Rattle.reset.specs.Clock.{Clock, vector}
 use Rattle.reset.specs.State.{Item, message, resetReq, resetDone, Station, State, stationAt, linkAt, reqSeen, doneSeen, sentTo}
@@ -33,7 +34,7 @@ modeFits c i x = isStation c i || isNormal (x .mode)
 
 -- phase 0 to 999,999
 abbrev pub phaseFits : {K : Clock} → Config → ℕ → Station K → Bool
-phaseFits c i x = leb (x .phase) (ofStation c i 999999)
+phaseFits c i x = leb (x .phase) (ofStation c i lastPhase)
 
 -- own entries within the allowance
 abbrev pub ownFits : {K : Clock} → Config → ℕ → Station K → Bool

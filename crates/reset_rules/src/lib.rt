@@ -4,6 +4,7 @@ ghost use mathlib.Core.List.{[]};
 ghost use mathlib.Core.Bool.{true, false};
 ghost use Prim.Native.Nat.{ℕ, suc, _+_, _<_, _≤_};
 ghost use lib.ListN.{getD};
+ghost use Rattle.clock.specs.Range.{lastPhase};
 ghost use Rattle.codec.specs.Put.{put};
 ghost use Rattle.reset.specs.Config.{Config};
 ghost use Rattle.reset.specs.Clock.{vector};
@@ -242,7 +243,7 @@ fn turn_once(row: [u8; 8], t: Turned) -> Turned
 
 // The rules tried from the first again after each that applies: three at most do.
 fn turn_all(row: [u8; 8], t: Turned) -> Turned
-    requires { ⌜ t .station .phase ≤ 999999 ⌝ }
+    requires { ⌜ t .station .phase ≤ lastPhase ⌝ }
     ensures { λ r. ⌜ ((c : Config) (i : ℕ) → getD (c .limits) i [] ≡ row → slotsView r ≡ slotAll c i (slotsView t)) ⌝ }
 {
     let a = turn_once(row, t);
@@ -252,7 +253,7 @@ fn turn_all(row: [u8; 8], t: Turned) -> Turned
 
 // The reset rules run at station i.
 pub fn turn(limits: [[u8; 8]; 8], i: usize, s: Station) -> Turned
-    requires { ⌜ (i < 8) × (s .phase ≤ 999999) ⌝ }
+    requires { ⌜ (i < 8) × (s .phase ≤ lastPhase) ⌝ }
     ensures { λ r. ⌜ ((c : Config) → c .limits ≡ limits → turnedView r ≡ turned c i (stationView s)) × (controlFits (r .first) ≡ true) × (controlFits (r .second) ≡ true) ⌝ }
 {
     let row = limits[i];
@@ -268,7 +269,7 @@ pub fn turn(limits: [[u8; 8]; 8], i: usize, s: Station) -> Turned
 
 // Station i begins a reset, and the rules run.
 pub fn start(limits: [[u8; 8]; 8], i: usize, s: Station) -> Turned
-    requires { ⌜ (i < 8) × (s .phase ≤ 999999) ⌝ }
+    requires { ⌜ (i < 8) × (s .phase ≤ lastPhase) ⌝ }
     ensures { λ r. ⌜ ((c : Config) → c .limits ≡ limits → turnedView r ≡ started c i (stationView s)) × (controlFits (r .first) ≡ true) × (controlFits (r .second) ≡ true) ⌝ }
 {
     let row = limits[i];

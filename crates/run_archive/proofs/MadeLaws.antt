@@ -93,7 +93,7 @@ module _ (c : Config) (E : List Accepted) (w : wellMade c ≡ true) (few : lengt
     unfolding entriesFit recordsFit
     part-fits =
         join (leb 1 (b + 1)) _ (le-leb 1 (b + 1) (omega arith))
-        (join (eqb (length (blockRecords E b) % 32) 0) _ (eq-eqb _ 0 (omega (arith, part-length E b)))
+        (join (eqb (length (blockRecords E b) % 32) 0) _ (eq-eqb (length (blockRecords E b) % 32) 0 (omega (arith, part-length E b)))
         (every-of (length (blockRecords E b) / 32) (λ (k : ℕ). wellMadeRecord (take 32 (drop (k * 32) (blockRecords E b))))
         (λ (k : ℕ) (h : k < length (blockRecords E b) / 32). rw (part-record E b k h) (accepted-bytes c (entryAt E (b * 15 + k)) (range (b * 15 + k) (in-list k h))))))
 

@@ -51,8 +51,8 @@ fn put_stations(area: &mut [u8], limits: [[u8; 8]; 8])
 {
     let mut i = 0;
     while i < 8 {
-        let o = 512 + i * 47;
-        let e = o + 47;
+        let o = area::STATIONS + i * station::SIZE;
+        let e = o + station::SIZE;
         let x = initial_station(limits, i);
         station::store(&mut area[o..e], x);
         i += 1;
@@ -63,7 +63,7 @@ fn put_stations(area: &mut [u8], limits: [[u8; 8]; 8])
 pub fn setup(block: &[u8], area: &mut [u8]) -> u8
     ensures { λ r. ⌜ (r ≡ setupOn (now (block .entry)) (now (area .entry)) .answer) × (now (area .exit) ≡ setupOn (now (block .entry)) (now (area .entry)) .buffer) ⌝ }
 {
-    if area.len() != 65536 {
+    if area.len() != area::SIZE {
         return 11;
     }
     if !header::well_made(block) {
@@ -75,6 +75,6 @@ pub fn setup(block: &[u8], area: &mut [u8]) -> u8
     }
     codec::put_bytes(area, 0, block);
     put_stations(area, limits);
-    codec::put_zeros(area, 888, 64648);
+    codec::put_zeros(area, area::LINKS, area::BEHIND_STATIONS);
     0
 }

@@ -11,6 +11,10 @@ use Rattle.codec.specs.Rows.{upto}
 use Rattle.reset.specs.Clock.{vector}
 use Rattle.reset.specs.State.{Mode, normal, mute, standBy, Station}
 
+-- ---- the size of a record in bytes
+abbrev pub stationSize : ℕ
+stationSize = 47
+
 -- ---- written
 -- a mark is 1 when it is seen
 abbrev pub markByte : Bool → ℕ

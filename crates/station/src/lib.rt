@@ -8,11 +8,14 @@ ghost use Rattle.codec.specs.Rows.{upto};
 ghost use Rattle.reset.specs.Steps.{isNormal};
 ghost use Rattle.codec.specs.Every.{every};
 ghost use Rattle.codec.specs.Num.{numsAt};
-ghost use Rattle.clock.specs.Range.{countsFit};
+ghost use Rattle.clock.specs.Range.{lastPhase, countsFit};
 ghost use Rattle.rules.specs.Setup.{blockConfig};
 ghost use Rattle.station.specs.Test.{markBound, sentWithinAt, marksWithinAt, stationTest};
 ghost use Rattle.station.specs.View.{modeView, stationView};
-ghost use Rattle.station.specs.Image.{byteAt, markAt, modeOf, modeByte, markByte, sentOf, marksOf, parseStation, imageStation};
+ghost use Rattle.station.specs.Image.{stationSize, byteAt, markAt, modeOf, modeByte, markByte, sentOf, marksOf, parseStation, imageStation};
+
+// A record in bytes.
+pub const SIZE: usize = 47;
 
 pub enum Mode {
     Normal,
@@ -76,7 +79,7 @@ fn marks_at(part: &[u8], at: usize) -> [bool; 8]
 
 // The record in a part.
 pub fn load(part: &[u8]) -> Station
-    requires { ⌜ length (now part) ≡ 47 ⌝ }
+    requires { ⌜ length (now part) ≡ stationSize ⌝ }
     ensures { λ r. ⌜ stationView r ≡ parseStation (now (part .entry)) ⌝ }
 {
     let counts = codec::get_row(part, 0);
@@ -124,7 +127,7 @@ fn put_marks(part: &mut [u8], at: usize, marks: [bool; 8])
 }
 
 fn put_sent(part: &mut [u8], sent: [u8; 8])
-    requires { ⌜ length (now part) ≡ 47 ⌝ }
+    requires { ⌜ length (now part) ≡ stationSize ⌝ }
     ensures { λ _. ⌜ now (part .exit) ≡ splice (now (part .entry)) 16 (sentOf sent) ⌝ }
 {
     let mut j = 0;
@@ -136,7 +139,7 @@ fn put_sent(part: &mut [u8], sent: [u8; 8])
 
 // Makes a part the image of a record.
 pub fn store(part: &mut [u8], s: Station)
-    requires { ⌜ length (now part) ≡ 47 ⌝ }
+    requires { ⌜ length (now part) ≡ stationSize ⌝ }
     ensures { λ _. ⌜ now (part .exit) ≡ imageStation (stationView s) ⌝ }
 {
     let counts = s.counts;
@@ -168,9 +171,9 @@ fn mode_bound(known: bool) -> u8
 }
 
 fn phase_bound(known: bool) -> u32
-    ensures { λ r. ⌜ r ≡ cond known 999999 0 ⌝ }
+    ensures { λ r. ⌜ r ≡ cond known lastPhase 0 ⌝ }
 {
-    if known { 999999 } else { 0 }
+    if known { clock::LAST_PHASE } else { 0 }
 }
 
 // The greatest byte of a mark, by the limit: nothing is marked where there is no link.
@@ -193,7 +196,7 @@ pub fn is_normal(m: Mode) -> bool
 // Each count is at most t, and 0 for stations n and above; all are 0 in the record of such a station. With a branch, the
 // bounds are the same for every station, and are made once.
 fn counts_fit(known: bool, n: u8, t: u16, part: &[u8]) -> bool
-    requires { ⌜ length (now part) ≡ 47 ⌝ }
+    requires { ⌜ length (now part) ≡ stationSize ⌝ }
     ensures { λ r. ⌜ r ≡ countsFit n (cond known t 0) (numsAt 2 8 (now (part .entry)) 0) ⌝ }
 {
     let counts = codec::get_row(part, 0);
@@ -205,7 +208,7 @@ fn counts_fit(known: bool, n: u8, t: u16, part: &[u8]) -> bool
 
 // Messages sent within the limits of a row, which stands at o.
 fn sent_fit(head: &[u8], o: usize, part: &[u8]) -> bool
-    requires { ⌜ (o + 8 ≤ length (now head)) × (length (now part) ≡ 47) ⌝ }
+    requires { ⌜ (o + 8 ≤ length (now head)) × (length (now part) ≡ stationSize) ⌝ }
     ensures { λ r. ⌜ r ≡ every 8 (sentWithinAt (now (head .entry)) o (now (part .entry))) ⌝ }
 {
     let mut ok = true;
@@ -219,7 +222,7 @@ fn sent_fit(head: &[u8], o: usize, part: &[u8]) -> bool
 
 // Every mark is 0 or 1, and 0 where the row has no link.
 fn marks_fit(head: &[u8], o: usize, part: &[u8]) -> bool
-    requires { ⌜ (o + 8 ≤ length (now head)) × (length (now part) ≡ 47) ⌝ }
+    requires { ⌜ (o + 8 ≤ length (now head)) × (length (now part) ≡ stationSize) ⌝ }
     ensures { λ r. ⌜ r ≡ every 8 (marksWithinAt (now (head .entry)) o (now (part .entry))) ⌝ }
 {
     let mut ok = true;
@@ -234,7 +237,7 @@ fn marks_fit(head: &[u8], o: usize, part: &[u8]) -> bool
 
 // The bytes of a part are the image of a record of station i in its range, by the header block.
 pub fn test(head: &[u8], i: usize, part: &[u8]) -> bool
-    requires { ⌜ (length (now head) ≡ 512) × (i < 8) × (length (now part) ≡ 47) ⌝ }
+    requires { ⌜ (length (now head) ≡ 512) × (i < 8) × (length (now part) ≡ stationSize) ⌝ }
     ensures { λ r. ⌜ r ≡ stationTest (blockConfig (now (head .entry))) i (now (part .entry)) ⌝ }
 {
     let n = head[1];

@@ -8,10 +8,10 @@ ghost use Rattle.station.specs.View.{modeView, stationView};
 ghost use Rattle.area.specs.Layout.{linkBytes, test};
 ghost use Rattle.steps.specs.Formed.{Does};
 ghost use Rattle.steps.specs.Sending.{sendRefusal, Sends};
+use crate::answer::Stepped;
 use link::Item;
 use station::Mode;
 use station::Station;
-use crate::answer::Stepped;
 
 pub fn enter(area: &mut [u8], station: u32, register: u32) -> Stepped
     requires { ⌜ test (now area) ≡ true ⌝ }

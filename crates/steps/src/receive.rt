@@ -15,12 +15,12 @@ ghost use Rattle.area_edit.specs.Room.{Roomy};
 ghost use Rattle.steps.specs.Formed.{Does};
 ghost use Rattle.steps.specs.Room.{roomBytes, items as Items, inBoundsAfter};
 ghost use Rattle.steps.specs.Taking.{Settles, Holds, TakesControl};
+use crate::answer::Stepped;
 use header::Header;
 use link::Item;
+use reset_rules::Turned;
 use station::Mode;
 use station::Station;
-use crate::answer::Stepped;
-use reset_rules::Turned;
 
 fn wide(x: u8) -> u16
     ensures { λ r. ⌜ (r ≡ x) × (r < 256) ⌝ }

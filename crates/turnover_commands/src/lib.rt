@@ -1,9 +1,9 @@
 // A run of turnover, command by command: the settings before setup, the steps after it, and the line that each command prints.
+use steps::answer::Answer;
+use steps::answer::Stepped;
 use turnover_input::command::Command;
 use turnover_settings::Run;
 use turnover_settings::Stage;
-use steps::answer::Answer;
-use steps::answer::Stepped;
 ghost use mathlib.Core.Path.{_≡_};
 ghost use mathlib.Core.Bool.{true};
 ghost use mathlib.Core.List.{List};
@@ -97,7 +97,15 @@ fn answered(out: &mut [u8], at: usize, number: u64, station: u8, n: u8, s: Stepp
     let a = s.answer;
     match a {
         Answer::Refused(refusal) => turnover_output::answer::refused(out, at, number, refusal),
-        Answer::Entered => turnover_output::answer::entry(out, at, number, phase, station, counts, n),
+        Answer::Entered => turnover_output::answer::entry(
+            out,
+            at,
+            number,
+            phase,
+            station,
+            counts,
+            n,
+        ),
         Answer::InMode { mode, phase } => {
             turnover_output::answer::mode(out, at, number, phase, station, station::mode_byte(mode))
         }
@@ -185,7 +193,13 @@ fn first(block: &mut [u8], area: &mut [u8], out: &mut [u8], at: usize, run: Run,
     if refusal != 0 {
         return refused(out, at, run, refusal);
     }
-    stepping(area, out, at, turnover_settings::staged(run, Stage::Stepping), c)
+    stepping(
+        area,
+        out,
+        at,
+        turnover_settings::staged(run, Stage::Stepping),
+        c,
+    )
 }
 
 // A command between `net` and setup.

@@ -50,7 +50,14 @@ fn take(
     }
     let kept = f.have;
     let next = f.next;
-    let told = turnover_commands::obey(block, area, out, end, run, turnover_input::lines::said(&line[..], kept));
+    let told = turnover_commands::obey(
+        block,
+        area,
+        out,
+        end,
+        run,
+        turnover_input::lines::said(&line[..], kept),
+    );
     let after = told.run;
     Taken {
         have: 0,
@@ -111,7 +118,14 @@ pub fn finish(
         let closed = turnover_commands::close(block, area, out, end, run);
         return closed.end;
     }
-    let told = turnover_commands::obey(block, area, out, end, run, turnover_input::lines::said(line, have));
+    let told = turnover_commands::obey(
+        block,
+        area,
+        out,
+        end,
+        run,
+        turnover_input::lines::said(line, have),
+    );
     let after = told.run;
     let closed = turnover_commands::close(block, area, out, told.end, after);
     closed.end
