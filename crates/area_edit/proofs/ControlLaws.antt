@@ -2,7 +2,7 @@
 use Prim.Native.Nat.{ℕ, _+_, _*_, _≤_, _<_}
 use mathlib.Core.Path.{_≡_, refl, _∙_, ap}
 use mathlib.Core.List.{List, [], _∷_, _++_}
-use mathlib.Core.Bool.{Bool, true, false, not}
+use mathlib.Core.Bool.{Bool, true, false, not, cond, _||_}
 use native.Mathlib.Omega.{arith}
 use native.Mathlib.Numerals.{add-one}
 use lib.Dec.{eqb}
@@ -53,7 +53,7 @@ module _ (c : Config) (s : State vector) (i : ℕ) (x : Item vector) where
 
   -- the links to j and on are as they were
   pub first-held : (a : List ℕ) (j : ℕ) → i < 8 → j < 8 → a ≡ image c (putFirst j c s i x) → getD (linkBytes a (i * 8 + j)) 0 0 ≡ length (linkAt s i j)
-  first-held a j il jl e = link-held c (putFirst j c s i x) i j il jl a e ∙ ap length (link-first-past c i x s j j (omega arith))
+  first-held a j il jl e = link-held c (putFirst j c s i x) i il e j jl ∙ ap length (link-first-past c i x s j j (omega arith))
 
   pub all-grows : (j : ℕ) → j < 8 → length (linkAt (putOnAll c s i x) i j) ≤ length (linkAt s i j) + 1
   all-grows j jl = go (neighbours c i j) refl
@@ -68,23 +68,26 @@ items-grow c s i j [] l = omega arith
 items-grow c s i j (x ∷ q) l = omega (arith, items-grow c (putOnAll c s i x) i j q l, all-grows c s i x j l)
 
 -- ---- control items by number
-pub items-req : (k : ℕ) → k ≡ 2 → itemOf k ≡ resetReq ∷ []
-items-req k e = rw e
+some : (p q : Bool) (m : Item vector) → (p || q) ≡ true → cond p (resetReq ∷ []) (cond q (resetDone ∷ []) []) ≡ cond p resetReq (cond q resetDone m) ∷ []
+some true q m h = refl
+some false true m h = refl
+some false false m h = let z : _≡_ {A = ℕ} 0 1 = cc in absurd (omega arith)
 
-pub items-done : (k : ℕ) → k ≡ 3 → itemOf k ≡ resetDone ∷ []
-items-done k e = rw e
+none : (p q : Bool) → (p || q) ≡ false → _≡_ {A = Queue} (cond p (resetReq ∷ []) (cond q (resetDone ∷ []) [])) []
+none false false h = refl
+none true q h = let z : _≡_ {A = ℕ} 0 1 = cc in absurd (omega arith)
+none false true h = let z : _≡_ {A = ℕ} 0 1 = cc in absurd (omega arith)
 
-pub items-none : (k : ℕ) → (k ≡ 2 → ⊥) → (k ≡ 3 → ⊥) → itemOf k ≡ []
-items-none k f g = rw (ne-eqb k 2 f, ne-eqb k 3 g)
-
--- a control item as the code makes it
-pub control-req : (x : CodeItem) → x .kind ≡ 2 → itemView x ≡ resetReq
+-- numbers 2 and 3 are an item, that of the code's struct; others are none
+pub items-one : (k : ℕ) (x : CodeItem) → (eqb k 2 || eqb k 3) ≡ true → x .kind ≡ k → itemOf k ≡ itemView x ∷ []
 unfolding itemAs
-control-req x e = rw e
+items-one k x h e = rw e (some (eqb k 2) (eqb k 3) _ h)
 
-pub control-done : (x : CodeItem) → x .kind ≡ 3 → itemView x ≡ resetDone
-unfolding itemAs
-control-done x e = rw e
+pub items-some : (k : ℕ) → (eqb k 2 || eqb k 3) ≡ true → length (itemOf k) ≡ 1
+items-some k h = ap length (some (eqb k 2) (eqb k 3) resetReq h)
+
+pub items-none : (k : ℕ) → (eqb k 2 || eqb k 3) ≡ false → itemOf k ≡ []
+items-none k h = none (eqb k 2) (eqb k 3) h
 
 -- ---- room
 -- room for more is room for fewer

@@ -13,6 +13,13 @@ ghost use Rattle.area.specs.Layout.{image, linkBytes};
 ghost use Rattle.area_edit.specs.Room.{Roomy};
 use link::Item;
 
+// Kinds of items.
+pub const MESSAGE: u8 = 1;
+
+pub const RESET_REQ: u8 = 2;
+
+pub const RESET_DONE: u8 = 3;
+
 // A control item.
 fn control(kind: u8) -> Item
     ensures { λ r. ⌜ (r .kind ≡ kind) × (r .register ≡ 0) ⌝ }
@@ -53,12 +60,8 @@ fn put_control(area: &mut [u8], limits: [[u8; 8]; 8], i: usize, kind: u8)
     requires { ⌜ (i < 8) × Roomy (now area) limits i (length (itemOf kind)) ⌝ }
     ensures { λ _. ⌜ ((c : Config) (s : State vector) → c .limits ≡ limits → now (area .entry) ≡ image c s → now (area .exit) ≡ image c (putItems c s i (itemOf kind))) ⌝ }
 {
-    if kind == 2 {
-        put_all(area, limits, i, control(2));
-        return;
-    }
-    if kind == 3 {
-        put_all(area, limits, i, control(3));
+    if (kind == RESET_REQ) | (kind == RESET_DONE) {
+        put_all(area, limits, i, control(kind));
     }
 }
 

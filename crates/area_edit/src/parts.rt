@@ -13,13 +13,38 @@ ghost use Rattle.area.specs.Layout.{image, stationBytes, linkBytes};
 use link::Item;
 use station::Station;
 
+// The header block comes first, then eight stations, then 64 links.
+pub const STATIONS: usize = 512;
+
+pub const STATION_SIZE: usize = 47;
+
+pub const LINKS: usize = 888;
+
+pub const LINK_SIZE: usize = 715;
+
+// Where the part of station i starts.
+fn station_start(i: usize) -> usize
+    requires { ⌜ i < 8 ⌝ }
+    ensures { λ r. ⌜ (r ≡ 512 + i * 47) × (r ≤ 841) ⌝ }
+{
+    STATIONS + i * STATION_SIZE
+}
+
+// Where the part of the link from i to j starts.
+fn link_start(i: usize, j: usize) -> usize
+    requires { ⌜ (i < 8) × (j < 8) ⌝ }
+    ensures { λ r. ⌜ (r ≡ 888 + (i * 8 + j) * 715) × (r ≤ 45933) ⌝ }
+{
+    LINKS + (i * 8 + j) * LINK_SIZE
+}
+
 // The record of station i.
 pub fn load_station(area: &[u8], i: usize) -> Station
     requires { ⌜ (length (now area) ≡ 65536) × (i < 8) ⌝ }
     ensures { λ r. ⌜ stationView r ≡ parseStation (stationBytes (now (area .entry)) i) ⌝ }
 {
-    let o = 512 + i * 47;
-    let e = o + 47;
+    let o = station_start(i);
+    let e = o + STATION_SIZE;
     station::load(&area[o..e])
 }
 
@@ -27,8 +52,8 @@ pub fn put_station(area: &mut [u8], i: usize, x: Station)
     requires { ⌜ (length (now area) ≡ 65536) × (i < 8) ⌝ }
     ensures { λ _. ⌜ ((c : Config) (s : State vector) → now (area .entry) ≡ image c s → now (area .exit) ≡ image c (setStation s i (stationView x))) ⌝ }
 {
-    let o = 512 + i * 47;
-    let e = o + 47;
+    let o = station_start(i);
+    let e = o + STATION_SIZE;
     station::store(&mut area[o..e], x);
 }
 
@@ -37,8 +62,7 @@ pub fn count_at(area: &[u8], i: usize, j: usize) -> u8
     requires { ⌜ (length (now area) ≡ 65536) × (i < 8) × (j < 8) ⌝ }
     ensures { λ r. ⌜ r ≡ getD (linkBytes (now (area .entry)) (i * 8 + j)) 0 0 ⌝ }
 {
-    let o = 888 + (i * 8 + j) * 715;
-    area[o]
+    area[link_start(i, j)]
 }
 
 // The first item of the link from i to j.
@@ -46,8 +70,8 @@ pub fn first_at(area: &[u8], i: usize, j: usize) -> Item
     requires { ⌜ (length (now area) ≡ 65536) × (i < 8) × (j < 8) ⌝ }
     ensures { λ r. ⌜ itemView r ≡ itemAt (linkBytes (now (area .entry)) (i * 8 + j)) 0 ⌝ }
 {
-    let o = 888 + (i * 8 + j) * 715;
-    let e = o + 715;
+    let o = link_start(i, j);
+    let e = o + LINK_SIZE;
     link::first(&area[o..e])
 }
 
@@ -56,8 +80,8 @@ pub fn take_at(area: &mut [u8], i: usize, j: usize)
     requires { ⌜ (length (now area) ≡ 65536) × (i < 8) × (j < 8) × (0 < getD (linkBytes (now area) (i * 8 + j)) 0 0) × (getD (linkBytes (now area) (i * 8 + j)) 0 0 ≤ 34) ⌝ }
     ensures { λ _. ⌜ ((c : Config) (s : State vector) (x : NetworkItem vector) (q : List (NetworkItem vector)) → now (area .entry) ≡ image c s → linkAt s i j ≡ x ∷ q → now (area .exit) ≡ image c (setLink s i j q)) ⌝ }
 {
-    let o = 888 + (i * 8 + j) * 715;
-    let e = o + 715;
+    let o = link_start(i, j);
+    let e = o + LINK_SIZE;
     link::pop(&mut area[o..e]);
 }
 
@@ -66,7 +90,7 @@ pub fn push_at(area: &mut [u8], i: usize, j: usize, x: Item)
     requires { ⌜ (length (now area) ≡ 65536) × (i < 8) × (j < 8) × (getD (linkBytes (now area) (i * 8 + j)) 0 0 < 34) ⌝ }
     ensures { λ _. ⌜ ((c : Config) (s : State vector) → now (area .entry) ≡ image c s → now (area .exit) ≡ image c (putOn s i j (itemView x))) ⌝ }
 {
-    let o = 888 + (i * 8 + j) * 715;
-    let e = o + 715;
+    let o = link_start(i, j);
+    let e = o + LINK_SIZE;
     link::push(&mut area[o..e], x);
 }

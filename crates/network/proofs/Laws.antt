@@ -1,8 +1,9 @@
 -- A step's call by the test of its area. Assumes nothing.
 use Prim.Native.Nat.{ℕ}
-use mathlib.Core.Path.{_≡_}
+use mathlib.Core.Path.{_≡_, sym, _∙_}
 use mathlib.Core.List.{List}
-use mathlib.Core.Bool.{true, false}
+use mathlib.Core.Bool.{Bool, true, false, not}
+use borrow.Author.Tests.{not-true, not-false}
 use Rattle.reset.specs.Steps.{Step}
 use Rattle.area.specs.Layout.{test}
 use Rattle.steps.specs.Answers.{noRecord}
@@ -12,11 +13,15 @@ use Rattle.steps.specs.declared.answer.Stepped.{Stepped}
 use Rattle.area_calls.specs.Calls.{stepOn}
 use Rattle.network.specs.Answers.{Steps}
 
-module _ (p : Step) (a : List ℕ) (r : Stepped) where
-  pub refused-two : test a ≡ false → r ≡ record { answer = Refused 2; event = noRecord } → Steps p a r a
-  unfolding stepOn
-  refused-two h e = record { answer = rw h e; area = rw h }
+-- b is what the code's test of area a gave
+module _ (a : List ℕ) {b : Bool} (e : b ≡ test a) where
+  pub passes : not b ≡ false → test a ≡ true
+  passes h = sym e ∙ not-false b h
 
-  pub done : (b : List ℕ) → test a ≡ true → Does p a r b → Steps p a r b
+  pub refused : {p : Step} {r : Stepped} → not b ≡ true → r ≡ record { answer = Refused 2; event = noRecord } → Steps p a r a
   unfolding stepOn
-  done b h d = record { answer = rw h (d .answer); area = rw h (d .area) }
+  refused h f = let z : test a ≡ false = sym e ∙ not-true b h in record { answer = rw z f; area = rw z }
+
+  pub done : {p : Step} {r : Stepped} {d : List ℕ} → not b ≡ false → Does p a r d → Steps p a r d
+  unfolding stepOn
+  done h f = let z = passes h in record { answer = rw z (f .answer); area = rw z (f .area) }

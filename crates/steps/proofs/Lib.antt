@@ -1,5 +1,4 @@
 pub mod Read
-pub mod LinkLaws
 pub mod SendLaws
+pub mod TurnedLaws
 pub mod ReceiptLaws
-pub mod TakingLaws

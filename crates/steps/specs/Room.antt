@@ -9,9 +9,13 @@ use Rattle.reset_rules.specs.Slots.{itemOf}
 use Rattle.reset_rules.specs.declared.Turned.{Turned}
 use Rattle.area.specs.Layout.{linkBytes}
 
+-- how many items a link with a limit holds at most
+abbrev pub placesOf : ℕ → ℕ
+placesOf l = l + 2
+
 -- every link out of i that has a limit in the row has room for k items more
 unfoldable pub roomBytes : List ℕ → List ℕ → ℕ → ℕ → Bool
-roomBytes a row i k = every 8 (λ (j : ℕ). eqb (getD row j 0) 0 || leb (getD (linkBytes a (i * 8 + j)) 0 0 + k) (getD row j 0 + 2))
+roomBytes a row i k = every 8 (λ (j : ℕ). eqb (getD row j 0) 0 || leb (getD (linkBytes a (i * 8 + j)) 0 0 + k) (placesOf (getD row j 0)))
 
 -- how many control items go on every link out
 abbrev pub items : Turned → ℕ

@@ -1,5 +1,5 @@
 -- What decides a send, and what it does to an area. Assumes nothing.
-use Prim.Native.Nat.{ℕ, _+_}
+use Prim.Native.Nat.{ℕ}
 use mathlib.Core.Path.{_≡_}
 use mathlib.Core.List.{List}
 use mathlib.Core.Bool.{cond}
@@ -12,13 +12,14 @@ use Rattle.reset.specs.State.{message, Station, State, doneSeen, sentTo, setSta
 use Rattle.reset.specs.Steps.{maySend, sending, entryOf, entry}
 use Rattle.area.specs.Layout.{image}
 use Rattle.steps.specs.Answers.{steppedOf}
+use Rattle.steps.specs.Room.{placesOf}
 use Rattle.steps.specs.declared.answer.Stepped.{Stepped}
 
 -- the refusal of a send from i, whose record is x, to its neighbour j, with the ceiling t, the link's limit and the items on it: 5, 6, 9, or 0 for none
 unfoldable pub sendRefusal : Station vector → ℕ → ℕ → ℕ → ℕ → ℕ → ℕ
 sendRefusal x t limit count i j =
     cond (maySend (x .mode) (doneSeen x j))
-    (cond (leb limit (sentTo x j)) 6 (cond (leb t (getD (x .time) i 0)) 9 (cond (leb (limit + 2) count) 9 0)))
+    (cond (leb limit (sentTo x j)) 6 (cond (leb t (getD (x .time) i 0)) 9 (cond (leb (placesOf limit) count) 9 0)))
     5
 
 -- the entry of a send, and the area after it

@@ -1,12 +1,33 @@
-// Answers of steps, and the test of a link that sends and receipts begin with.
+// Answers of steps, and their numbers.
 ghost use mathlib.Core.Path.{_≡_};
-ghost use Prim.Native.Nat.{_≤_};
 ghost use Rattle.steps.specs.Answers.{noRecord};
-ghost use Rattle.steps.specs.Link.{isLinked};
-use header::Header;
 use record::Record;
 use station::Mode;
 use station::Station;
+
+// Refusals.
+pub const ILL_FORMED_STATE: u8 = 2;
+
+pub const NO_SUCH_STATION: u8 = 4;
+
+pub const MODE_FORBIDS: u8 = 5;
+
+pub const USED_UP: u8 = 6;
+
+pub const EMPTY_LINK: u8 = 7;
+
+pub const NO_MORE_PHASES: u8 = 8;
+
+pub const BEYOND_BOUND: u8 = 9;
+
+// Kinds of entries, and the peer of an own entry.
+pub const OWN: u8 = 1;
+
+pub const SENT: u8 = 2;
+
+pub const RECEIVED: u8 = 3;
+
+pub const NO_PEER: u8 = 255;
 
 // A refusal's number; an accepted entry; the mode and phase after.
 pub enum Answer {
@@ -72,27 +93,4 @@ pub fn in_mode(x: Station) -> Stepped
         },
         event: blank_record(),
     }
-}
-
-// There is a station, and it has such a neighbour.
-pub fn linked(h: Header, limits: [[u8; 8]; 8], station: u32, peer: u32) -> bool
-    requires { ⌜ h .n ≤ 8 ⌝ }
-    ensures { λ r. ⌜ r ≡ isLinked (h .n) limits station peer ⌝ }
-{
-    if wide(h.n) <= station {
-        return false;
-    }
-    if 8 <= peer {
-        return false;
-    }
-    let i = station as usize;
-    let j = peer as usize;
-    let row = limits[i];
-    row[j] != 0
-}
-
-pub fn wide(n: u8) -> u32
-    ensures { λ r. ⌜ r ≡ n ⌝ }
-{
-    n as u32
 }

@@ -8,7 +8,12 @@ ghost use Rattle.station.specs.View.{modeView, stationView};
 ghost use Rattle.area.specs.Layout.{linkBytes, test};
 ghost use Rattle.steps.specs.Formed.{Does};
 ghost use Rattle.steps.specs.Sending.{sendRefusal, Sends};
+use crate::answer;
 use crate::answer::Stepped;
+use crate::settings;
+use crate::turned;
+use area_edit::controls;
+use area_edit::parts;
 use link::Item;
 use station::Mode;
 use station::Station;
@@ -17,23 +22,23 @@ pub fn enter(area: &mut [u8], station: u32, register: u32) -> Stepped
     requires { ⌜ test (now area) ≡ true ⌝ }
     ensures { λ r. ⌜ Does (Enter station register) (now (area .entry)) r (now (area .exit)) ⌝ }
 {
-    let h = header::load(&area[0..512]);
-    if crate::answer::wide(h.n) <= station {
-        return crate::answer::refused(4);
+    let h = settings::header_of(&area[..]);
+    if settings::wide(h.n) <= station {
+        return answer::refused(answer::NO_SUCH_STATION);
     }
     let i = station as usize;
-    let s = area_edit::parts::load_station(&area[..], i);
+    let s = parts::load_station(&area[..], i);
     let allowances = h.allowances;
     if allowances[i] <= s.own {
-        return crate::answer::refused(6);
+        return answer::refused(answer::USED_UP);
     }
     let counts = s.counts;
     if h.t <= counts[i] {
-        return crate::answer::refused(9);
+        return answer::refused(answer::BEYOND_BOUND);
     }
     let x = reset_rules::entered(s, i);
-    area_edit::parts::put_station(area, i, x);
-    crate::answer::entry(1, station as u8, 255, register, x)
+    parts::put_station(area, i, x);
+    answer::entry(answer::OWN, station as u8, answer::NO_PEER, register, x)
 }
 
 fn may_send(mode: Mode, done: bool) -> bool
@@ -54,18 +59,18 @@ fn send_refusal(s: Station, t: u16, limit: u8, count: u8, i: usize, j: usize) ->
     let mode = s.mode;
     let dones = s.dones;
     if !may_send(mode, dones[j]) {
-        return 5;
+        return answer::MODE_FORBIDS;
     }
     let sent = s.sent;
     if limit <= sent[j] {
-        return 6;
+        return answer::USED_UP;
     }
     let counts = s.counts;
     if t <= counts[i] {
-        return 9;
+        return answer::BEYOND_BOUND;
     }
-    if limit + 2 <= count {
-        return 9;
+    if turned::places(limit) <= settings::wide(count) {
+        return answer::BEYOND_BOUND;
     }
     0
 }
@@ -78,32 +83,32 @@ fn send_message(area: &mut [u8], s: Station, i: usize, j: usize, register: u32) 
     let x = reset_rules::sending(s, i, j);
     let counts = x.counts;
     let item = Item {
-        kind: 1,
+        kind: controls::MESSAGE,
         register,
         counts,
     };
-    area_edit::parts::push_at(area, i, j, item);
-    area_edit::parts::put_station(area, i, x);
-    crate::answer::entry(2, i as u8, j as u8, register, x)
+    parts::push_at(area, i, j, item);
+    parts::put_station(area, i, x);
+    answer::entry(answer::SENT, i as u8, j as u8, register, x)
 }
 
 pub fn send(area: &mut [u8], station: u32, peer: u32, register: u32) -> Stepped
     requires { ⌜ test (now area) ≡ true ⌝ }
     ensures { λ r. ⌜ Does (Send station peer register) (now (area .entry)) r (now (area .exit)) ⌝ }
 {
-    let h = header::load(&area[0..512]);
-    let limits = header::load_limits(&area[0..512]);
-    if !crate::answer::linked(h, limits, station, peer) {
-        return crate::answer::refused(4);
+    let h = settings::header_of(&area[..]);
+    let limits = settings::limits_of(&area[..]);
+    if !settings::linked(h, limits, station, peer) {
+        return answer::refused(answer::NO_SUCH_STATION);
     }
     let i = station as usize;
     let j = peer as usize;
     let row = limits[i];
-    let s = area_edit::parts::load_station(&area[..], i);
-    let count = area_edit::parts::count_at(&area[..], i, j);
-    let k = send_refusal(s, h.t, row[j], count, i, j);
-    if k != 0 {
-        return crate::answer::refused(k);
+    let s = parts::load_station(&area[..], i);
+    let count = parts::count_at(&area[..], i, j);
+    let refusal = send_refusal(s, h.t, row[j], count, i, j);
+    if refusal != 0 {
+        return answer::refused(refusal);
     }
     send_message(area, s, i, j, register)
 }

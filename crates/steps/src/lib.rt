@@ -1,4 +1,7 @@
-// The steps over an area that passed its test: answers, own entries and sends, receipts and starts.
+// The steps over an area that passed its test: the header read, every refusal decided, and then the parts of the area written.
 pub mod answer;
 pub mod entry;
 pub mod receive;
+pub mod settings;
+pub mod start;
+pub mod turned;

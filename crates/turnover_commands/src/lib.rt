@@ -156,7 +156,7 @@ fn stepping(area: &mut [u8], out: &mut [u8], at: usize, run: Run, c: Command) ->
             made(out, at, run, station, s)
         }
         Command::Start { station } => {
-            let s = steps::receive::start(area, station as u32);
+            let s = steps::start::start(area, station as u32);
             made(out, at, run, station, s)
         }
         Command::Net { n: _, t: _ } => bad(out, at, run),

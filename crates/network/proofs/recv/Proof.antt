@@ -1,28 +1,13 @@
-use mathlib.Core.Path.{sym, _∙_}
-use denote.Ref.{now}
-use borrow.Author.Tests.{not-true, not-false}
-use Rattle.reset.specs.Steps.{recv as Recv}
-use Rattle.network.proofs.Laws.{refused-two, done}
+use Rattle.network.proofs.Laws.{passes, refused, done}
 use borrow.Author.Needs.{needs}
 use Rattle.network.proofs.recv.Statement.{statement}
 use Rattle.network.proofs.recv.Tie as tie
-
-returns : tie.Need-returns
-returns c =
-    let g = c .before .before .before .before .before .args in
-    refused-two (Recv (g .station) (g .peer)) (now (g .area)) (c .refused .result) (sym (c .before .before .well-formed .ensures) ∙ not-true _ (c .before .if1 .taken)) (c .refused .ensures)
-
-recv-requires : tie.Need-recv-requires
-recv-requires c κs = sym (c .before .before .well-formed .ensures) ∙ not-false _ (c .before .if1 .left)
-
-returns-2 : tie.Need-returns-2
-returns-2 c =
-    let g = c .before .before .before .before .before .before .before .before .args in
-    done (Recv (g .station) (g .peer)) (now (g .area)) (c .before .before .recv .result) (c .before .before .recv .last .0) (sym (c .before .before .before .before .before .well-formed .ensures) ∙ not-false _ (c .before .before .before .before .if1 .left)) (c .before .before .recv .ensures)
 
 pub recv-spec : {M : Type 1} → statement M
 recv-spec =
     tie.close
     (tie.spec
-    (λ c κs. search needs) (λ c κs. search needs) (λ c. search needs) returns recv-requires
-    (λ c. search needs) returns-2)
+    (λ c κs. search needs) (λ c κs. search needs) (λ c. search needs)
+    (λ c. refused _ (c .before .before .well-formed .ensures) (c .before .if1 .taken) (c .refused .ensures))
+    (λ c κs. passes _ (c .before .before .well-formed .ensures) (c .before .if1 .left)) (λ c. search needs)
+    (λ c. let o = c .before .before .before .before in done _ (o .before .well-formed .ensures) (o .if1 .left) (c .before .before .recv .ensures)))

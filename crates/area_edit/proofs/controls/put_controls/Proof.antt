@@ -1,6 +1,9 @@
 use mathlib.Core.Path.{_∙_, ap}
+use mathlib.Core.List.{List}
 use native.Mathlib.Omega.{arith}
 use lib.ListN.{length-append}
+use Rattle.reset.specs.Clock.{vector}
+use Rattle.reset.specs.State.{Item}
 use Rattle.area_edit.proofs.ControlLaws.{less-room, room-after}
 use Rattle.reset_rules.specs.Slots.{itemOf}
 use Rattle.reset_rules.proofs.TurnLaws.{put-items}
@@ -9,22 +12,27 @@ use borrow.Author.Needs.{needs}
 use Rattle.area_edit.proofs.controls.put_controls.Statement.{statement}
 use Rattle.area_edit.proofs.controls.put_controls.Tie as tie
 
+module _ (g : tie.Start) where
+  abbrev first : List (Item vector)
+  first = itemOf (g .args .first)
+
+  abbrev second : List (Item vector)
+  second = itemOf (g .args .second)
+
 put-control-requires : tie.Need-put-control-requires
-put-control-requires c κs =
-    let g = c .before .before in
-    (g .pre .0, less-room _ _ (omega (arith, length-append (itemOf (g .args .first)) (itemOf (g .args .second)))) (g .pre .1))
+put-control-requires c κs = let g = c .before .before in (g .pre .0, less-room _ _ (omega (arith, length-append (first g) (second g))) (g .pre .1))
 
 put-control-requires-2 : tie.Need-put-control-requires-2
 put-control-requires-2 c κs =
     let g = c .before .before .before .before .before .before in
     let r = g .pre .1 in
-    (g .pre .0, room-after _ (itemOf (g .args .first)) (itemOf (g .args .second)) r (c .before .before .before .put-control .ensures (r .config) (r .state) (r .limits) (r .is)))
+    (g .pre .0, room-after _ (first g) (second g) r (c .before .before .before .put-control .ensures (r .config) (r .state) (r .limits) (r .is)))
 
 returns : tie.Need-returns
 returns c = λ d s r p.
-    let g = c .before .before .before .before .before .before .before .before .before in
-    c .before .before .put-control2 .ensures d _ r (c .before .before .before .before .before .before .put-control .ensures d s r p) ∙ ap (image d) (put-items d (g .args .i) s (itemOf (g .args .first)) (itemOf (g .args .second)))
+    let o = c .before .before .before .before .before .before in
+    let g = o .before .before .before in
+    c .before .before .put-control2 .ensures d _ r (o .put-control .ensures d s r p) ∙ ap (image d) (put-items d _ s (first g) (second g))
 
 pub put-controls-spec : {M : Type 1} → statement M
-put-controls-spec =
-    tie.close (tie.spec put-control-requires put-control-requires-2 (λ c. search needs) returns)
+put-controls-spec = tie.close (tie.spec put-control-requires put-control-requires-2 (λ c. search needs) returns)

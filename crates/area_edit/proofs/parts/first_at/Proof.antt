@@ -1,19 +1,18 @@
-use Prim.Native.Nat.{ℕ, _+_, _*_, _-_}
-use mathlib.Core.Path.{_≡_}
-use native.Mathlib.Omega.{arith}
-use Rattle.area.specs.Layout.{linkBytes}
+use Prim.Native.Nat.{_+_, _*_}
+use denote.Ref.{now}
+use Rattle.area_edit.proofs.PartLaws.{link-part}
 use borrow.Author.Needs.{needs}
 use Rattle.area_edit.proofs.parts.first_at.Statement.{statement}
 use Rattle.area_edit.proofs.parts.first_at.Tie as tie
 
 returns : tie.Need-returns
-unfolding linkBytes
-returns c = let k : ℕ = c .before .before .before .args .i * 8 + c .before .before .before .args .j in let e : 888 + k * 715 + 715 - (888 + k * 715) ≡ 715 = omega arith in rw e at (c .first .ensures)
+returns c =
+    let g = c .before .before .before .before .args in
+    rw (link-part (now (g .area)) (g .i * 8 + g .j) (c .before .before .link-start .ensures .0)) at (c .first .ensures)
 
 pub first-at-spec : {M : Type 1} → statement M
 first-at-spec =
     tie.close
     (tie.spec
-    (λ c. search needs) (λ c. search needs) (λ c. search needs) (λ c. search needs)
-    (λ c. search needs) (λ c. search needs) (λ c. search needs) (λ c. search needs)
-    (λ c κs. search needs) returns)
+    (λ c κs. search needs) (λ c. search needs) (λ c. search needs) (λ c. search needs)
+    (λ c. search needs) (λ c κs. search needs) returns)

@@ -1,35 +1,28 @@
-use Prim.Native.Nat.{ℕ, _+_, _*_, _-_}
-use mathlib.Core.Path.{_≡_}
+use Prim.Native.Nat.{_+_, _*_}
 use native.Mathlib.Omega.{arith}
 use denote.Ref.{now}
 use lib.ListN.{length-take, length-drop}
-use Rattle.area_edit.proofs.PartLaws.{part-bytes, link-lent, link-back}
 use Rattle.reset.specs.State.{linkAt}
+use Rattle.area_edit.proofs.PartLaws.{link-part, link-back}
 use borrow.Author.Needs.{needs}
 use Rattle.area_edit.proofs.parts.push_at.Statement.{statement}
 use Rattle.area_edit.proofs.parts.push_at.Tie as tie
 
 push-requires : tie.Need-push-requires
 push-requires c κs =
-    let g = c .before .before in
-    let k : ℕ = g .args .i * 8 + g .args .j in
-    let e = part-bytes (now (g .args .area)) k (888 + k * 715 + 715 - (888 + k * 715)) (omega arith) in
+    let g = c .before .before .before in
+    let e = link-part (now (g .args .area)) (g .args .i * 8 + g .args .j) (c .before .link-start .ensures .0) in
     (simp (length-take, length-drop) (omega arith), rw e (g .pre .3))
 
 returns : tie.Need-returns
 returns c = λ d s p.
-    let g = c .before .before .before .before .before in
-    let i = g .args .i in
-    let j = g .args .j in
-    let k : ℕ = i * 8 + j in
-    let w : 888 + k * 715 + 715 - (888 + k * 715) ≡ 715 = omega arith in
-    link-back d s i j (g .pre .1) (g .pre .2) (now (g .args .area)) _ _ (888 + k * 715 + 715) p w
-    (c .before .before .push .ensures (linkAt s i j) (link-lent d s i j (g .pre .1) (g .pre .2) (now (g .args .area)) _ p w))
+    let l = c .before .before .before .before in
+    let g = l .before .before in
+    link-back d s _ (g .pre .1) p _ (g .pre .2) _ (l .link-start .ensures .0) (c .before .before .push .ensures (linkAt s (g .args .i) (g .args .j)))
 
 pub push-at-spec : {M : Type 1} → statement M
 push-at-spec =
     tie.close
     (tie.spec
-    (λ c. search needs) (λ c. search needs) (λ c. search needs) (λ c. search needs)
-    (λ c. search needs) (λ c. search needs) (λ c. search needs) (λ c. search needs) push-requires
-    (λ c. search needs) returns)
+    (λ c κs. search needs) (λ c. search needs) (λ c. search needs) (λ c. search needs)
+    (λ c. search needs) push-requires (λ c. search needs) returns)

@@ -1,4 +1,4 @@
-use Prim.Native.Nat.{ℕ, _+_, _-_}
+use Prim.Native.Nat.{ℕ}
 use mathlib.Core.Path.{_≡_, _∙_, sym, ap}
 use mathlib.Core.List.{List, [], _∷_, _++_}
 use Rattle.clock.specs.Timestamp.{tick}
@@ -18,21 +18,21 @@ use Rattle.steps.proofs.entry.send_message.Tie as tie
 returns : tie.Need-returns
 unfolding itemOf
 returns c =
-    let g = c .before .before .before .before .before .before .before .before .before .before .before .before .args in
+    let o = c .before .before .before .before .before .before .before in
+    let p = o .before .before .before in
+    let g = p .before .before .args in
     let i : ℕ = g .i in
     let j : ℕ = g .j in
-    let x : NetworkStation vector = stationView (g .s) in
-    let z : stationView (c .before .before .before .before .before .before .before .before .before .before .sending .result) ≡ sending i j x = c .before .before .before .before .before .before .before .before .before .before .sending .ensures in
-    let v : c .before .before .before .before .before .before .before .before .before .before .sending .result .counts ≡ tick i (x .time) = ap (λ (q : NetworkStation vector). q .time) z in
+    let x : NetworkStation vector = sending i j (stationView (g .s)) in
+    let m : NetworkItem vector = message (tick i (g .s .counts)) (g .register) in
+    let z : stationView (p .sending .result) ≡ x = p .sending .ensures in
     record {
       answer = c .entry .ensures ∙ ap (λ (q : NetworkStation vector). steppedOf (entry (entryOf 2 i j (g .register) q))) z;
       area = λ d s e.
-          c .before .before .before .put-station .ensures d _ (c .before .before .before .before .before .before .before .push-at .ensures d s e)
-          ∙ ap (λ (q : NetworkStation vector). image d (setStation (putOn s i j (message (c .before .before .before .before .before .before .before .before .before .before .sending .result .counts) (g .register))) i q)) z
-          ∙ ap (λ (q : List ℕ). image d (setStation (putOn s i j (message q (g .register))) i (sending i j x))) v
-          ∙ ap (image d) (sym (set-link-set s i j i (linkAt s i j ++ (message (tick i (x .time)) (g .register) ∷ [])) (sending i j x)))
-          ∙ ap (λ (l : List (NetworkItem vector)). image d (setLink (setStation s i (sending i j x)) i j (l ++ (message (tick i (x .time)) (g .register) ∷ []))))
-          (sym (link-set-station s i (sending i j x) i j));
+          c .before .before .before .put-station .ensures d _ (o .push-at .ensures d s e)
+          ∙ ap (λ (q : NetworkStation vector). image d (setStation (putOn s i j (message (q .time) (g .register))) i q)) z
+          ∙ ap (image d) (sym (set-link-set s i j i (linkAt s i j ++ (m ∷ [])) x))
+          ∙ ap (λ (l : List (NetworkItem vector)). image d (setLink (setStation s i x) i j (l ++ (m ∷ [])))) (sym (link-set-station s i x i j));
     }
 
 pub send-message-spec : {M : Type 1} → statement M

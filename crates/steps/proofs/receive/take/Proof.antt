@@ -1,138 +1,93 @@
-use Prim.Native.Nat.{ℕ, _-_, _<_}
+use Prim.Native.Nat.{ℕ}
 use mathlib.Core.Path.{_≡_, _∙_, sym, ap}
+use mathlib.Core.List.{List, _∷_}
 use native.Mathlib.Omega.{arith}
-use mathlib.Core.List.{List}
 use denote.Ref.{now}
-use Rattle.codec.specs.Num.{AreBytes}
 use Rattle.reset.specs.Config.{Config}
 use Rattle.reset.specs.Clock.{vector}
-use Rattle.reset.specs.State.{Item, resetReq, resetDone, Station, stationAt, linkAt}
-use Rattle.area.specs.Layout.{configAt, stateAt}
+use Rattle.reset.specs.State.{Item, resetReq, resetDone, Station, State, stationAt, linkAt}
 use Rattle.reset.specs.Steps.{withReq, withDone, bounded, doMark}
+use Rattle.link.specs.Image.{itemView}
 use Rattle.station.specs.View.{stationView}
-use Rattle.area_edit.proofs.ControlLaws.{control-req, control-done}
-use Rattle.steps.proofs.Read.{long, station-is}
-use Rattle.steps.proofs.ReceiptLaws.{rest, first-is, message-view}
-use Rattle.steps.proofs.TakingLaws.{i-small, j-small, phase-most}
+use Rattle.area.specs.Layout.{configAt, stateAt}
+use Rattle.steps.proofs.Read.{AtLink, station-is, phase-most}
+use Rattle.steps.proofs.ReceiptLaws.{rest, first-is, held, is-req, is-done, is-message}
 use borrow.Author.Needs.{needs}
 use Rattle.steps.proofs.receive.take.Statement.{statement}
 use Rattle.steps.proofs.receive.take.Tie as tie
 
-first-at-requires : tie.Need-first-at-requires
-first-at-requires c κs =
-    let g = c .before .before in
-    let a : List ℕ = now (g .args .area) in
-    let bytes : AreBytes a = λ i. omega (arith, c .before .slice-known .given i) in
-    let h = g .pre .0 in
-    let il : g .args .i < 8 = i-small a bytes _ _ h in
-    let jl : g .args .j < 8 = j-small a bytes _ _ h in
-    (long a bytes (h .tested), jl, il)
+module _ (c : tie.After-slice-known) where
+  abbrev g : tie.Start
+  g = c .before
 
-load-station-requires : tie.Need-load-station-requires
-load-station-requires c κs =
-    let g = c .before .before .before .before in
-    let a : List ℕ = now (g .args .area) in
-    let bytes : AreBytes a = λ i. omega (arith, c .before .before .before .slice-known .given i) in
-    let h = g .pre .0 in
-    let il : g .args .i < 8 = i-small a bytes _ _ h in
-    let jl : g .args .j < 8 = j-small a bytes _ _ h in
-    (long a bytes (h .tested), il)
+  abbrev a : List ℕ
+  a = now (g .args .area)
 
-with-req-requires : tie.Need-with-req-requires
-with-req-requires c κs =
-    let g = c .before .before .before .before .before .before .before .before in
-    let a : List ℕ = now (g .args .area) in
-    let bytes : AreBytes a = λ i. omega (arith, c .before .before .before .before .before .before .before .slice-known .given i) in
-    let h = g .pre .0 in
-    let il : g .args .i < 8 = i-small a bytes _ _ h in
-    let jl : g .args .j < 8 = j-small a bytes _ _ h in
-    jl
+  abbrev s : State vector
+  s = stateAt a
+
+  abbrev i : ℕ
+  i = g .args .i
+
+  abbrev j : ℕ
+  j = g .args .j
+
+  at : AtLink a i j
+  at = held a i j (λ n. omega (arith, c .slice-known .given n)) (g .pre .0)
+
+-- the first item and the station's record are read
+module _ (c : tie.After-load-station) where
+  abbrev o : tie.After-slice-known
+  o = c .before .before .before .before
+
+  x : stationAt (s o) (i o) ≡ stationView (c .load-station .result)
+  x = station-is (at o .area) _ (at o .i-small) (c .load-station .ensures)
+
+  first : (y : Item vector) → itemView (c .before .before .first-at .result) ≡ y → linkAt (s o) (j o) (i o) ≡ y ∷ rest (linkAt (s o) (j o) (i o))
+  first y e = first-is (at o) (g o .pre .0 .some) y (sym e ∙ c .before .before .first-at .ensures)
+
+  marks : (y z : Station vector) → y ≡ z → bounded (configAt (a o)) (s o) (doMark (configAt (a o)) (i o) (j o) z (rest (linkAt (s o) (j o) (i o))) (s o)) ≡ bounded (configAt (a o)) (s o) (doMark (configAt (a o)) (i o) (j o) y (rest (linkAt (s o) (j o) (i o))) (s o))
+  marks y z e = rw e
 
 take-control-requires : tie.Need-take-control-requires
 take-control-requires c κs =
-    let g = c .before .before .before .before .before .before .before .before .before in
-    let a : List ℕ = now (g .args .area) in
-    let bytes : AreBytes a = λ i. omega (arith, c .before .before .before .before .before .before .before .before .slice-known .given i) in
-    let h = g .pre .0 in
-    let il : g .args .i < 8 = i-small a bytes _ _ h in
-    let jl : g .args .j < 8 = j-small a bytes _ _ h in
-    let z : stationAt (stateAt a) (g .args .i) ≡ stationView (c .before .before .before .before .load-station .result) = station-is a bytes (h .tested) _ il (c .before .before .before .before .load-station .result) (c .before .before .before .before .load-station .ensures) in
-    (h, ap (λ (x : Config). x .limits) (g .pre .1), omega (arith, c .with-req .ensures .1, phase-most a bytes (h .tested) _ il, ap (λ (x : Station vector). x .phase) z))
+    let l = c .before .before .before .before in
+    let k = at (o l) in
+    (g (o l) .pre .0, ap (λ (x : Config). x .limits) (g (o l) .pre .1), omega (arith, c .with-req .ensures .1, phase-most (k .area) _ (k .i-small), ap (λ (x : Station vector). x .phase) (x l)))
 
 returns : tie.Need-returns
 returns c =
-    let g = c .before .before .before .before .before .before .before .before .before .before .before .before in
-    let a : List ℕ = now (g .args .area) in
-    let bytes : AreBytes a = λ i. omega (arith, c .before .before .before .before .before .before .before .before .before .before .before .slice-known .given i) in
-    let h = g .pre .0 in
-    let il : g .args .i < 8 = i-small a bytes _ _ h in
-    let jl : g .args .j < 8 = j-small a bytes _ _ h in
-    let z : stationAt (stateAt a) (g .args .i) ≡ stationView (c .before .before .before .before .before .before .before .load-station .result) = station-is a bytes (h .tested) _ il (c .before .before .before .before .before .before .before .load-station .result) (c .before .before .before .before .before .before .before .load-station .ensures) in
-    let q : List (Item vector) = rest (linkAt (stateAt a) (g .args .j) (g .args .i)) in
-    let e : stationView (c .before .before .before .with-req .result) ≡ withReq (g .args .j) (stationAt (stateAt a) (g .args .i)) = c .before .before .before .with-req .ensures .0 ∙ ap (withReq (g .args .j)) (sym z) in
-    c .before .before .take-control .ensures resetReq q (first-is a _ _ jl il (h .some) resetReq (sym (control-req _ (c .before .before .before .before .before .if1 .taken)) ∙ c .before .before .before .before .before .before .before .before .before .first-at .ensures)) (ap (λ (x : Station vector). x .time) e)
-    (ap (λ (x : Station vector). bounded (configAt a) (stateAt a) (doMark (configAt a) (g .args .i) (g .args .j) x q (stateAt a))) (sym e))
-
-with-done-requires : tie.Need-with-done-requires
-with-done-requires c κs =
-    let g = c .before .before .before .before .before .before .before .before .before .before in
-    let a : List ℕ = now (g .args .area) in
-    let bytes : AreBytes a = λ i. omega (arith, c .before .before .before .before .before .before .before .before .before .slice-known .given i) in
-    let h = g .pre .0 in
-    let il : g .args .i < 8 = i-small a bytes _ _ h in
-    let jl : g .args .j < 8 = j-small a bytes _ _ h in
-    jl
+    let w = c .before .before .before in
+    let l = w .before .before .before .before in
+    let e : stationView (w .with-req .result) ≡ withReq (j (o l)) (stationAt (s (o l)) (i (o l))) = w .with-req .ensures .0 ∙ ap (withReq (j (o l))) (sym (x l)) in
+    c .before .before .take-control .ensures resetReq _ (first l resetReq (is-req _ (w .before .before .if1 .taken))) (ap (λ (x : Station vector). x .time) e) (marks l _ _ e)
 
 take-control-requires-2 : tie.Need-take-control-requires-2
 take-control-requires-2 c κs =
-    let g = c .before .before .before .before .before .before .before .before .before .before .before in
-    let a : List ℕ = now (g .args .area) in
-    let bytes : AreBytes a = λ i. omega (arith, c .before .before .before .before .before .before .before .before .before .before .slice-known .given i) in
-    let h = g .pre .0 in
-    let il : g .args .i < 8 = i-small a bytes _ _ h in
-    let jl : g .args .j < 8 = j-small a bytes _ _ h in
-    let z : stationAt (stateAt a) (g .args .i) ≡ stationView (c .before .before .before .before .before .before .load-station .result) = station-is a bytes (h .tested) _ il (c .before .before .before .before .before .before .load-station .result) (c .before .before .before .before .before .before .load-station .ensures) in
-    (h, ap (λ (x : Config). x .limits) (g .pre .1), omega (arith, c .with-done .ensures .1, phase-most a bytes (h .tested) _ il, ap (λ (x : Station vector). x .phase) z))
+    let l = c .before .before .before .before .before .before in
+    let k = at (o l) in
+    (g (o l) .pre .0, ap (λ (x : Config). x .limits) (g (o l) .pre .1), omega (arith, c .with-done .ensures .1, phase-most (k .area) _ (k .i-small), ap (λ (x : Station vector). x .phase) (x l)))
 
 returns-2 : tie.Need-returns-2
 returns-2 c =
-    let g = c .before .before .before .before .before .before .before .before .before .before .before .before .before .before in
-    let a : List ℕ = now (g .args .area) in
-    let bytes : AreBytes a = λ i. omega (arith, c .before .before .before .before .before .before .before .before .before .before .before .before .before .slice-known .given i) in
-    let h = g .pre .0 in
-    let il : g .args .i < 8 = i-small a bytes _ _ h in
-    let jl : g .args .j < 8 = j-small a bytes _ _ h in
-    let z : stationAt (stateAt a) (g .args .i) ≡ stationView (c .before .before .before .before .before .before .before .before .before .load-station .result) = station-is a bytes (h .tested) _ il (c .before .before .before .before .before .before .before .before .before .load-station .result) (c .before .before .before .before .before .before .before .before .before .load-station .ensures) in
-    let q : List (Item vector) = rest (linkAt (stateAt a) (g .args .j) (g .args .i)) in
-    let e : stationView (c .before .before .before .with-done .result) ≡ withDone (g .args .j) (stationAt (stateAt a) (g .args .i)) = c .before .before .before .with-done .ensures .0 ∙ ap (withDone (g .args .j)) (sym z) in
-    c .before .before .take-control2 .ensures resetDone q (first-is a _ _ jl il (h .some) resetDone (sym (control-done _ (c .before .before .before .before .before .if2 .taken)) ∙ c .before .before .before .before .before .before .before .before .before .before .before .first-at .ensures)) (ap (λ (x : Station vector). x .time) e)
-    (ap (λ (x : Station vector). bounded (configAt a) (stateAt a) (doMark (configAt a) (g .args .i) (g .args .j) x q (stateAt a))) (sym e))
-
-take-message-requires : tie.Need-take-message-requires
-take-message-requires c κs =
-    let g = c .before .before .before .before .before .before .before .before .before .before in
-    let a : List ℕ = now (g .args .area) in
-    let bytes : AreBytes a = λ i. omega (arith, c .before .before .before .before .before .before .before .before .before .slice-known .given i) in
-    let h = g .pre .0 in
-    let il : g .args .i < 8 = i-small a bytes _ _ h in
-    let jl : g .args .j < 8 = j-small a bytes _ _ h in
-    let z : stationAt (stateAt a) (g .args .i) ≡ stationView (c .before .before .before .before .before .load-station .result) = station-is a bytes (h .tested) _ il (c .before .before .before .before .before .load-station .result) (c .before .before .before .before .before .load-station .ensures) in
-    (h, ap (λ (x : Config). x .t) (g .pre .1), sym z)
+    let w = c .before .before .before in
+    let l = w .before .before .before .before .before .before in
+    let e : stationView (w .with-done .result) ≡ withDone (j (o l)) (stationAt (s (o l)) (i (o l))) = w .with-done .ensures .0 ∙ ap (withDone (j (o l))) (sym (x l)) in
+    c .before .before .take-control2 .ensures resetDone _ (first l resetDone (is-done _ (w .before .before .if2 .taken))) (ap (λ (x : Station vector). x .time) e) (marks l _ _ e)
 
 returns-3 : tie.Need-returns-3
 returns-3 c =
-    let g = c .before .before .before .before .before .before .before .before .before .before .before .before .before in
-    let a : List ℕ = now (g .args .area) in
-    let bytes : AreBytes a = λ i. omega (arith, c .before .before .before .before .before .before .before .before .before .before .before .before .slice-known .given i) in
-    let h = g .pre .0 in
-    let il : g .args .i < 8 = i-small a bytes _ _ h in
-    let jl : g .args .j < 8 = j-small a bytes _ _ h in
-    c .before .before .take-message .ensures _ (first-is a _ _ jl il (h .some) _ (sym (message-view _ (c .before .before .before .before .before .before .if1 .left) (c .before .before .before .before .if2 .left)) ∙ c .before .before .before .before .before .before .before .before .before .before .first-at .ensures))
+    let e = c .before .before .before .before in
+    c .before .before .take-message .ensures _ (first (e .before .before .before .before) _ (is-message _ (e .before .before .if1 .left) (e .if2 .left)))
 
 pub take-spec : {M : Type 1} → statement M
 take-spec =
     tie.close
     (tie.spec
-    first-at-requires load-station-requires with-req-requires take-control-requires
-    (λ c. search needs) returns with-done-requires take-control-requires-2 (λ c. search needs)
-    returns-2 take-message-requires (λ c. search needs) returns-3)
+    (λ c κs. let k = at (c .before) in (k .area .long, k .j-small, k .i-small))
+    (λ c κs. let k = at (c .before .before .before) in (k .area .long, k .i-small))
+    (λ c κs. at (o (c .before .before .before)) .j-small) take-control-requires (λ c. search needs) returns
+    (λ c κs. at (o (c .before .before .before .before .before)) .j-small) take-control-requires-2
+    (λ c. search needs) returns-2
+    (λ c κs. let l = c .before .before .before .before .before in (g (o l) .pre .0, ap (λ (x : Config). x .t) (g (o l) .pre .1), sym (x l)))
+    (λ c. search needs) returns-3)

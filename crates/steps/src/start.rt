@@ -1,0 +1,37 @@
+// Starts of a reset over an area that passed its test.
+ghost use mathlib.Core.Path.{_≡_};
+ghost use mathlib.Core.Bool.{true};
+ghost use Rattle.reset.specs.Steps.{start as Start};
+ghost use Rattle.area.specs.Layout.{test};
+ghost use Rattle.steps.specs.Formed.{Does};
+use crate::answer;
+use crate::answer::Stepped;
+use crate::settings;
+use crate::turned;
+use area_edit::parts;
+
+pub fn start(area: &mut [u8], station: u32) -> Stepped
+    requires { ⌜ test (now area) ≡ true ⌝ }
+    ensures { λ r. ⌜ Does (Start station) (now (area .entry)) r (now (area .exit)) ⌝ }
+{
+    let h = settings::header_of(&area[..]);
+    if settings::wide(h.n) <= station {
+        return answer::refused(answer::NO_SUCH_STATION);
+    }
+    let limits = settings::limits_of(&area[..]);
+    let i = station as usize;
+    let s = parts::load_station(&area[..], i);
+    let mode = s.mode;
+    if !station::is_normal(mode) {
+        return answer::refused(answer::MODE_FORBIDS);
+    }
+    if settings::LAST_PHASE <= s.phase {
+        return answer::refused(answer::NO_MORE_PHASES);
+    }
+    let t = reset_rules::start(limits, i, s);
+    let row = limits[i];
+    if !turned::in_bounds(&area[..], row, i, t) {
+        return answer::refused(answer::BEYOND_BOUND);
+    }
+    turned::settle(area, limits, i, t)
+}
