@@ -6,19 +6,12 @@ ghost use lib.ListN.{length, getD};
 ghost use Rattle.reset.specs.Config.{Config};
 ghost use Rattle.reset.specs.Clock.{vector};
 ghost use Rattle.reset.specs.State.{State, putLinked, putOnAll};
-ghost use Rattle.link.specs.Image.{itemView};
+ghost use Rattle.link.specs.Image.{mostItems, itemView};
 ghost use Rattle.reset_rules.specs.Turn.{putItems};
 ghost use Rattle.reset_rules.specs.Slots.{itemOf};
-ghost use Rattle.area.specs.Layout.{image, linkBytes};
+ghost use Rattle.area.specs.Layout.{areaSize, image, linkBytes};
 ghost use Rattle.area_edit.specs.Room.{Roomy};
 use link::Item;
-
-// Kinds of items.
-pub const MESSAGE: u8 = 1;
-
-pub const RESET_REQ: u8 = 2;
-
-pub const RESET_DONE: u8 = 3;
 
 // A control item.
 fn control(kind: u8) -> Item
@@ -33,7 +26,7 @@ fn control(kind: u8) -> Item
 
 // An item on the link from i to j, where there is one.
 fn put_linked(area: &mut [u8], row: [u8; 8], i: usize, j: usize, x: Item)
-    requires { ⌜ (length (now area) ≡ 65536) × (i < 8) × (j < 8) × ((getD row j 0 ≡ 0 → ⊥) → getD (linkBytes (now area) (i * 8 + j)) 0 0 < 34) ⌝ }
+    requires { ⌜ (length (now area) ≡ areaSize) × (i < 8) × (j < 8) × ((getD row j 0 ≡ 0 → ⊥) → getD (linkBytes (now area) (i * 8 + j)) 0 0 < mostItems) ⌝ }
     ensures { λ _. ⌜ ((c : Config) (s : State vector) → getD (c .limits) i [] ≡ row → now (area .entry) ≡ image c s → now (area .exit) ≡ image c (putLinked c s i j (itemView x))) ⌝ }
 {
     if row[j] == 0 {
@@ -60,7 +53,7 @@ fn put_control(area: &mut [u8], limits: [[u8; 8]; 8], i: usize, kind: u8)
     requires { ⌜ (i < 8) × Roomy (now area) limits i (length (itemOf kind)) ⌝ }
     ensures { λ _. ⌜ ((c : Config) (s : State vector) → c .limits ≡ limits → now (area .entry) ≡ image c s → now (area .exit) ≡ image c (putItems c s i (itemOf kind))) ⌝ }
 {
-    if (kind == RESET_REQ) | (kind == RESET_DONE) {
+    if (kind == link::RESET_REQ) | (kind == link::RESET_DONE) {
         put_all(area, limits, i, control(kind));
     }
 }

@@ -16,12 +16,8 @@ ghost use Rattle.reset_rules.specs.Slots.{controlFits, everySeen, someSe
 use station::Mode;
 use station::Station;
 
-// Control items by number.
+// In place of a control item's number, where there is none.
 pub const NO_ITEM: u8 = 0;
-
-pub const RESET_REQ: u8 = 2;
-
-pub const RESET_DONE: u8 = 3;
 
 // A station after the reset rules, with the control items that go on every link out, in order.
 pub struct Turned {
@@ -215,7 +211,7 @@ fn turn_once(row: [u8; 8], t: Turned) -> Turned
                 return Turned {
                     station: renew(s),
                     first: t.first,
-                    second: RESET_DONE,
+                    second: link::RESET_DONE,
                 };
             }
         }
@@ -232,7 +228,7 @@ fn turn_once(row: [u8; 8], t: Turned) -> Turned
             if some_seen(row, reqs) {
                 return Turned {
                     station: begin(s),
-                    first: RESET_REQ,
+                    first: link::RESET_REQ,
                     second: t.second,
                 };
             }
@@ -278,7 +274,7 @@ pub fn start(limits: [[u8; 8]; 8], i: usize, s: Station) -> Turned
         row,
         Turned {
             station: b,
-            first: RESET_REQ,
+            first: link::RESET_REQ,
             second: NO_ITEM,
         },
     )

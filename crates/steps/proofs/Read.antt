@@ -21,7 +21,7 @@ use Rattle.reset.proofs.Formed.{formed-of}
 use Rattle.reset.proofs.ConfigLaws.{shape, linked-small}
 use Rattle.rules.specs.Setup.{headerOf}
 use Rattle.station.specs.Image.{parseStation}
-use Rattle.step_outcomes.proofs.Formed.{formed-bounds}
+use Rattle.reset.proofs.Formed.{formed-bounds}
 use Rattle.step_outcomes.proofs.Outcome.{station-small, neighbour-small}
 use Rattle.area.specs.Layout.{image, stationBytes, linkBytes, configAt, stateAt, test}
 use Rattle.area.proofs.Formed.{tested, formed, formed-fits, station-read, imaged}

@@ -21,7 +21,7 @@ use Rattle.station.specs.declared.Mode.the-variants.{Normal, Mute, StandBy}
 use Rattle.reset_rules.specs.Turn.{Turning, putItems}
 use Rattle.reset_rules.specs.Slots.{turnedView}
 use Rattle.reset_rules.specs.declared.Turned.{Turned}
-use Rattle.step_outcomes.proofs.Control.{roomFor}
+use Rattle.step_outcomes.proofs.Local.{roomFor}
 use Rattle.area.specs.Layout.{image, linkBytes, configAt, stateAt}
 use Rattle.area_edit.specs.Room.{Roomy}
 use Rattle.steps.specs.Answers.{steppedOf, modeCode}

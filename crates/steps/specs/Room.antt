@@ -4,6 +4,7 @@ use mathlib.Core.List.{List, _++_}
 use mathlib.Core.Bool.{Bool, _&&_, _||_}
 use lib.Dec.{eqb, leb}
 use lib.ListN.{length, getD}
+use Rattle.clock.specs.Range.{lastPhase}
 use Rattle.codec.specs.Every.{every}
 use Rattle.reset_rules.specs.Slots.{itemOf}
 use Rattle.reset_rules.specs.declared.Turned.{Turned}
@@ -23,4 +24,4 @@ items t = length (itemOf (t .first) ++ itemOf (t .second))
 
 -- after the rules nothing is beyond its bound: the phase, and the room on the links out
 unfoldable pub inBoundsAfter : List ℕ → List ℕ → ℕ → Turned → Bool
-inBoundsAfter a row i t = leb (t .station .phase) 999999 && roomBytes a row i (items t)
+inBoundsAfter a row i t = leb (t .station .phase) lastPhase && roomBytes a row i (items t)

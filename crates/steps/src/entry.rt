@@ -5,12 +5,13 @@ ghost use Prim.Native.Nat.{_+_, _*_, _≤_, _<_};
 ghost use lib.ListN.{length, getD};
 ghost use Rattle.reset.specs.Steps.{enter as Enter, send as Send, maySend};
 ghost use Rattle.station.specs.View.{modeView, stationView};
-ghost use Rattle.area.specs.Layout.{linkBytes, test};
+ghost use Rattle.link.specs.Image.{mostItems};
+ghost use Rattle.area.specs.Layout.{areaSize, linkBytes, test};
 ghost use Rattle.steps.specs.Formed.{Does};
 ghost use Rattle.steps.specs.Sending.{sendRefusal, Sends};
 use crate::answer;
 use crate::answer::Stepped;
-use crate::settings;
+use crate::config;
 use crate::turned;
 use area_edit::controls;
 use area_edit::parts;
@@ -22,8 +23,8 @@ pub fn enter(area: &mut [u8], station: u32, register: u32) -> Stepped
     requires { ⌜ test (now area) ≡ true ⌝ }
     ensures { λ r. ⌜ Does (Enter station register) (now (area .entry)) r (now (area .exit)) ⌝ }
 {
-    let h = settings::header_of(&area[..]);
-    if settings::wide(h.n) <= station {
+    let h = config::header_of(&area[..]);
+    if config::wide(h.n) <= station {
         return answer::refused(answer::NO_SUCH_STATION);
     }
     let i = station as usize;
@@ -69,7 +70,7 @@ fn send_refusal(s: Station, t: u16, limit: u8, count: u8, i: usize, j: usize) ->
     if t <= counts[i] {
         return answer::BEYOND_BOUND;
     }
-    if turned::places(limit) <= settings::wide(count) {
+    if turned::places(limit) <= config::wide(count) {
         return answer::BEYOND_BOUND;
     }
     0
@@ -77,13 +78,13 @@ fn send_refusal(s: Station, t: u16, limit: u8, count: u8, i: usize, j: usize) ->
 
 // Station i's message goes on its link to j.
 fn send_message(area: &mut [u8], s: Station, i: usize, j: usize, register: u32) -> Stepped
-    requires { ⌜ (length (now area) ≡ 65536) × (i < 8) × (j < 8) × (getD (s .counts) i 0 < 65535) × (getD (s .sent) j 0 < 255) × (getD (linkBytes (now area) (i * 8 + j)) 0 0 < 34) ⌝ }
+    requires { ⌜ (length (now area) ≡ areaSize) × (i < 8) × (j < 8) × (getD (s .counts) i 0 < 65535) × (getD (s .sent) j 0 < 255) × (getD (linkBytes (now area) (i * 8 + j)) 0 0 < mostItems) ⌝ }
     ensures { λ r. ⌜ Sends (stationView s) i j register (now (area .entry)) r (now (area .exit)) ⌝ }
 {
     let x = reset_rules::sending(s, i, j);
     let counts = x.counts;
     let item = Item {
-        kind: controls::MESSAGE,
+        kind: link::MESSAGE,
         register,
         counts,
     };
@@ -96,9 +97,9 @@ pub fn send(area: &mut [u8], station: u32, peer: u32, register: u32) -> Stepped
     requires { ⌜ test (now area) ≡ true ⌝ }
     ensures { λ r. ⌜ Does (Send station peer register) (now (area .entry)) r (now (area .exit)) ⌝ }
 {
-    let h = settings::header_of(&area[..]);
-    let limits = settings::limits_of(&area[..]);
-    if !settings::linked(h, limits, station, peer) {
+    let h = config::header_of(&area[..]);
+    let limits = config::limits_of(&area[..]);
+    if !config::linked(h, limits, station, peer) {
         return answer::refused(answer::NO_SUCH_STATION);
     }
     let i = station as usize;

@@ -3,6 +3,7 @@ ghost use mathlib.Core.Path.{_≡_};
 ghost use mathlib.Core.List.{List, _∷_};
 ghost use mathlib.Core.Bool.{true};
 ghost use Prim.Native.Nat.{_≤_};
+ghost use Rattle.clock.specs.Range.{lastPhase};
 ghost use Rattle.reset.specs.Clock.{vector};
 ghost use Rattle.reset.specs.State.{Item as NetworkItem, message, stationAt, linkAt};
 ghost use Rattle.reset.specs.Steps.{recv as Recv};
@@ -13,7 +14,7 @@ ghost use Rattle.steps.specs.Formed.{Does};
 ghost use Rattle.steps.specs.Taking.{Holds, TakesControl};
 use crate::answer;
 use crate::answer::Stepped;
-use crate::settings;
+use crate::config;
 use crate::turned;
 use area_edit::controls;
 use area_edit::parts;
@@ -23,7 +24,7 @@ use station::Station;
 
 // Station i takes the control item first on the link from j; x is its record with the mark.
 fn take_control(area: &mut [u8], limits: [[u8; 8]; 8], x: Station, i: usize, j: usize) -> Stepped
-    requires { ⌜ Holds (now area) i j × (limits ≡ configAt (now area) .limits) × (x .phase ≤ 999999) ⌝ }
+    requires { ⌜ Holds (now area) i j × (limits ≡ configAt (now area) .limits) × (x .phase ≤ lastPhase) ⌝ }
     ensures { λ r. ⌜ TakesControl (stationView x) i j (now (area .entry)) r (now (area .exit)) ⌝ }
 {
     let t = reset_rules::turn(limits, i, x);
@@ -58,10 +59,10 @@ fn take(area: &mut [u8], h: Header, limits: [[u8; 8]; 8], i: usize, j: usize) ->
 {
     let x = parts::first_at(&area[..], j, i);
     let s = parts::load_station(&area[..], i);
-    if x.kind == controls::RESET_REQ {
+    if x.kind == link::RESET_REQ {
         return take_control(area, limits, reset_rules::with_req(s, j), i, j);
     }
-    if x.kind == controls::RESET_DONE {
+    if x.kind == link::RESET_DONE {
         return take_control(area, limits, reset_rules::with_done(s, j), i, j);
     }
     take_message(area, h.t, s, x, i, j)
@@ -71,9 +72,9 @@ pub fn recv(area: &mut [u8], station: u32, peer: u32) -> Stepped
     requires { ⌜ test (now area) ≡ true ⌝ }
     ensures { λ r. ⌜ Does (Recv station peer) (now (area .entry)) r (now (area .exit)) ⌝ }
 {
-    let h = settings::header_of(&area[..]);
-    let limits = settings::limits_of(&area[..]);
-    if !settings::linked(h, limits, station, peer) {
+    let h = config::header_of(&area[..]);
+    let limits = config::limits_of(&area[..]);
+    if !config::linked(h, limits, station, peer) {
         return answer::refused(answer::NO_SUCH_STATION);
     }
     let i = station as usize;

@@ -6,7 +6,7 @@ ghost use Rattle.area.specs.Layout.{test};
 ghost use Rattle.steps.specs.Formed.{Does};
 use crate::answer;
 use crate::answer::Stepped;
-use crate::settings;
+use crate::config;
 use crate::turned;
 use area_edit::parts;
 
@@ -14,18 +14,18 @@ pub fn start(area: &mut [u8], station: u32) -> Stepped
     requires { ⌜ test (now area) ≡ true ⌝ }
     ensures { λ r. ⌜ Does (Start station) (now (area .entry)) r (now (area .exit)) ⌝ }
 {
-    let h = settings::header_of(&area[..]);
-    if settings::wide(h.n) <= station {
+    let h = config::header_of(&area[..]);
+    if config::wide(h.n) <= station {
         return answer::refused(answer::NO_SUCH_STATION);
     }
-    let limits = settings::limits_of(&area[..]);
+    let limits = config::limits_of(&area[..]);
     let i = station as usize;
     let s = parts::load_station(&area[..], i);
     let mode = s.mode;
     if !station::is_normal(mode) {
         return answer::refused(answer::MODE_FORBIDS);
     }
-    if settings::LAST_PHASE <= s.phase {
+    if clock::LAST_PHASE <= s.phase {
         return answer::refused(answer::NO_MORE_PHASES);
     }
     let t = reset_rules::start(limits, i, s);

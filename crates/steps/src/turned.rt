@@ -2,13 +2,14 @@
 ghost use mathlib.Core.Path.{_≡_};
 ghost use Prim.Native.Nat.{_≤_, _<_};
 ghost use lib.ListN.{length};
+ghost use Rattle.area.specs.Layout.{areaSize};
 ghost use Rattle.reset_rules.specs.Slots.{itemOf};
 ghost use Rattle.area_edit.specs.Room.{Roomy};
 ghost use Rattle.steps.specs.Room.{placesOf, roomBytes, items as Items, inBoundsAfter};
 ghost use Rattle.steps.specs.Taking.{Settles};
 use crate::answer;
 use crate::answer::Stepped;
-use crate::settings;
+use crate::config;
 use area_edit::controls;
 use area_edit::parts;
 use reset_rules::Turned;
@@ -17,14 +18,14 @@ use reset_rules::Turned;
 pub fn places(limit: u8) -> u32
     ensures { λ r. ⌜ (r ≡ placesOf limit) × (r < 258) ⌝ }
 {
-    settings::wide(limit) + 2
+    config::wide(limit) + 2
 }
 
 // One more where there is a control item.
 fn weight(kind: u8) -> u32
     ensures { λ r. ⌜ (r ≡ length (itemOf kind)) × (r ≤ 1) ⌝ }
 {
-    if (kind == controls::RESET_REQ) | (kind == controls::RESET_DONE) {
+    if (kind == link::RESET_REQ) | (kind == link::RESET_DONE) {
         return 1;
     }
     0
@@ -32,13 +33,13 @@ fn weight(kind: u8) -> u32
 
 // Every link out of i has room for k items more.
 fn room(area: &[u8], row: [u8; 8], i: usize, k: u32) -> bool
-    requires { ⌜ (length (now area) ≡ 65536) × (i < 8) × (k ≤ 2) ⌝ }
+    requires { ⌜ (length (now area) ≡ areaSize) × (i < 8) × (k ≤ 2) ⌝ }
     ensures { λ r. ⌜ r ≡ roomBytes (now (area .entry)) row i k ⌝ }
 {
     let mut ok = true;
     let mut j = 0;
     while j < 8 {
-        let count = settings::wide(parts::count_at(area, i, j));
+        let count = config::wide(parts::count_at(area, i, j));
         let limit = row[j];
         ok = ok & ((limit == 0) | (count + k <= places(limit)));
         j += 1;
@@ -48,16 +49,16 @@ fn room(area: &[u8], row: [u8; 8], i: usize, k: u32) -> bool
 
 // The phase that the rules lead to, and the room on the links out.
 pub fn in_bounds(area: &[u8], row: [u8; 8], i: usize, t: Turned) -> bool
-    requires { ⌜ (length (now area) ≡ 65536) × (i < 8) ⌝ }
+    requires { ⌜ (length (now area) ≡ areaSize) × (i < 8) ⌝ }
     ensures { λ r. ⌜ r ≡ inBoundsAfter (now (area .entry)) row i t ⌝ }
 {
     let x = t.station;
-    (x.phase <= settings::LAST_PHASE) & room(area, row, i, weight(t.first) + weight(t.second))
+    (x.phase <= clock::LAST_PHASE) & room(area, row, i, weight(t.first) + weight(t.second))
 }
 
 // The station's record and its control items are written.
 pub fn settle(area: &mut [u8], limits: [[u8; 8]; 8], i: usize, t: Turned) -> Stepped
-    requires { ⌜ (length (now area) ≡ 65536) × (i < 8) × Roomy (now area) limits i (Items t) ⌝ }
+    requires { ⌜ (length (now area) ≡ areaSize) × (i < 8) × Roomy (now area) limits i (Items t) ⌝ }
     ensures { λ r. ⌜ Settles limits i t (now (area .entry)) r (now (area .exit)) ⌝ }
 {
     let x = t.station;

@@ -14,7 +14,7 @@ use Rattle.reset.specs.Steps.{isNormal}
 use Rattle.reset_rules.specs.Turn.{Turning, started}
 use Rattle.reset_rules.specs.Slots.{turnedView}
 use Rattle.station.specs.View.{stationView}
-use Rattle.step_outcomes.proofs.Control.{roomFor}
+use Rattle.step_outcomes.proofs.Local.{roomFor}
 use Rattle.step_outcomes.proofs.Outcome.{start-no-station, start-forbidden, start-last, start-refused, start-done}
 use Rattle.area.specs.Layout.{configAt, stateAt}
 use Rattle.steps.proofs.Read.{Passed, passed, refuses, AtStation, at-station, no-station, station-is}

@@ -7,21 +7,18 @@ ghost use Rattle.area.specs.Layout.{configAt, test};
 ghost use Rattle.steps.specs.Link.{isLinked};
 use header::Header;
 
-// The last phase.
-pub const LAST_PHASE: u32 = 999999;
-
 pub fn header_of(area: &[u8]) -> Header
     requires { ⌜ test (now area) ≡ true ⌝ }
     ensures { λ r. ⌜ r ≡ headerOf (configAt (now (area .entry))) ⌝ }
 {
-    header::load(&area[0..area_edit::parts::STATIONS])
+    header::load(&area[0..area::STATIONS])
 }
 
 pub fn limits_of(area: &[u8]) -> [[u8; 8]; 8]
     requires { ⌜ test (now area) ≡ true ⌝ }
     ensures { λ r. ⌜ r ≡ configAt (now (area .entry)) .limits ⌝ }
 {
-    header::load_limits(&area[0..area_edit::parts::STATIONS])
+    header::load_limits(&area[0..area::STATIONS])
 }
 
 // There is a station, and it has such a neighbour.

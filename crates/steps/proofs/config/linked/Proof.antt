@@ -3,8 +3,8 @@ use native.Mathlib.Omega.{arith}
 use borrow.Author.Tests.{lt-ltb, le-ltb}
 use Rattle.steps.specs.Link.{isLinked}
 use borrow.Author.Needs.{needs}
-use Rattle.steps.proofs.settings.linked.Statement.{statement}
-use Rattle.steps.proofs.settings.linked.Tie as tie
+use Rattle.steps.proofs.config.linked.Statement.{statement}
+use Rattle.steps.proofs.config.linked.Tie as tie
 
 -- there is a station
 below : (c : tie.Else1) → c .before .before .args .station < c .before .before .args .h .n
