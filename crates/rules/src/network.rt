@@ -1,9 +1,7 @@
 // The network rules, on a header's fields. The limits are a table of eight rows, one for each sender.
 ghost use mathlib.Core.Path.{_≡_};
-ghost use Prim.Native.Nat.{ℕ, _<_, _≤_};
-ghost use mathlib.Core.Bool.{true};
+ghost use Prim.Native.Nat.{_<_, _≤_};
 ghost use Rattle.codec.specs.Every.{every};
-ghost use Rattle.reset.specs.Reach.{linked, everyReached};
 ghost use Rattle.reset.specs.Config.{zeroDiagonal, bothOrNone, linkedBothWays, allowanceBelow, limitBelow, nothingAbove, sum, between, withinCeiling, networkRules};
 ghost use Rattle.rules.specs.Setup.{configOf, headerConfig};
 use header::Header;
@@ -146,50 +144,6 @@ fn within_ceiling(t: u16, allowances: [u16; 8], limits: [[u8; 8]; 8]) -> bool
     true
 }
 
-// A station before j has a link to it.
-fn has_earlier(limits: [[u8; 8]; 8], j: usize) -> bool
-    requires { ⌜ j < 8 ⌝ }
-    ensures { λ r. ⌜ (r ≡ true → (i : ℕ) × (i < j) × (linked limits i j ≡ true)) ⌝ }
-{
-    let mut i = 0;
-    while i < j {
-        let l = limits[i][j];
-        if l != 0 {
-            return true;
-        }
-        i += 1;
-    }
-    false
-}
-
-// Every station below n but 0 has a link from one before it: so it is reached, and nothing has to spread.
-fn in_order(n: u8, limits: [[u8; 8]; 8]) -> bool
-    ensures { λ r. ⌜ (r ≡ true → everyReached n limits ≡ true) ⌝ }
-{
-    if 8 < n {
-        return false;
-    }
-    let top = n as usize;
-    let mut j = 1;
-    while j < top {
-        if !has_earlier(limits, j) {
-            return false;
-        }
-        j += 1;
-    }
-    true
-}
-
-// Every station below n is reached from station 0.
-fn all_reached(n: u8, limits: [[u8; 8]; 8]) -> bool
-    ensures { λ r. ⌜ r ≡ everyReached n limits ⌝ }
-{
-    if in_order(n, limits) {
-        return true;
-    }
-    crate::reach::every_reached(n, limits)
-}
-
 // All of them, in document 01's order.
 pub fn network_rules(n: u8, t: u16, allowances: [u16; 8], limits: [[u8; 8]; 8]) -> bool
     ensures { λ r. ⌜ r ≡ networkRules (configOf n t allowances limits) ⌝ }
@@ -197,7 +151,7 @@ pub fn network_rules(n: u8, t: u16, allowances: [u16; 8], limits: [[u8; 8]; 8]) 
     zero_diagonal(limits)
         & (linked_both_ways(limits)
             & (nothing_above(n, allowances, limits)
-                & (all_reached(n, limits) & within_ceiling(t, allowances, limits))))
+                & (crate::reach::every_reached(n, limits) & within_ceiling(t, allowances, limits))))
 }
 
 // The network rules, on a header.

@@ -1,7 +1,8 @@
 // Which stations can be reached from station 0, by spreading over neighbours.
 ghost use mathlib.Core.Path.{_≡_};
-ghost use Prim.Native.Nat.{_<_};
-ghost use Rattle.reset.specs.Reach.{apart, joins, first, reached, everyReached};
+ghost use mathlib.Core.Bool.{true};
+ghost use Prim.Native.Nat.{ℕ, _<_, _≤_};
+ghost use Rattle.reset.specs.Reach.{linked, apart, joins, first, reached, everyReached};
 
 // No reached station has a link to j.
 fn is_apart(limits: [[u8; 8]; 8], seen: [u8; 8], j: usize) -> bool
@@ -58,12 +59,47 @@ fn spread(limits: [[u8; 8]; 8], seen: [u8; 8]) -> [u8; 8]
     spread(limits, more)
 }
 
+// A station before j has a link to it.
+fn has_earlier(limits: [[u8; 8]; 8], j: usize) -> bool
+    requires { ⌜ j < 8 ⌝ }
+    ensures { λ r. ⌜ (r ≡ true → (i : ℕ) × (i < j) × (linked limits i j ≡ true)) ⌝ }
+{
+    let mut i = 0;
+    while i < j {
+        let l = limits[i][j];
+        if l != 0 {
+            return true;
+        }
+        i += 1;
+    }
+    false
+}
+
+// Every station below n but 0 has a link from one before it: so it is reached, and nothing has to spread.
+fn in_order(n: u8, limits: [[u8; 8]; 8]) -> bool
+    requires { ⌜ n ≤ 8 ⌝ }
+    ensures { λ r. ⌜ (r ≡ true → everyReached n limits ≡ true) ⌝ }
+{
+    let top = n as usize;
+    let mut j = 1;
+    while j < top {
+        if !has_earlier(limits, j) {
+            return false;
+        }
+        j += 1;
+    }
+    true
+}
+
 // Every station below n can be reached from station 0. The table has eight stations: none above is reached.
 pub fn every_reached(n: u8, limits: [[u8; 8]; 8]) -> bool
     ensures { λ r. ⌜ r ≡ everyReached n limits ⌝ }
 {
     if 8 < n {
         return false;
+    }
+    if in_order(n, limits) {
+        return true;
     }
     let top = n as usize;
     let seen = spread(limits, [1, 0, 0, 0, 0, 0, 0, 0]);

@@ -23,23 +23,23 @@ returns c = sym (not-above _ _ (c .if1 .taken))
 loop-holds : tie.Need-loop-holds Inv-loop μ-loop
 loop-holds c = (omega arith, omega arith, every-none _)
 
-returns-2 : tie.Need-returns-2 Inv-loop μ-loop
+returns-3 : tie.Need-returns-3 Inv-loop μ-loop
 unfolding everyReached
-returns-2 c =
+returns-3 c =
     let l = c .before .before .loop in
     let e = c .before .before .before .spread .ensures in
-    sym (rw e at (every-fails (c .before .before .before .before .before .args .n) (isSeen (c .before .before .before .spread .result)) (l .i) (omega arith) (ap not (eq-eqb _ _ (c .if2 .taken)))))
+    sym (rw e at (every-fails (c .before .before .before .before .before .before .before .args .n) (isSeen (c .before .before .before .spread .result)) (l .i) (omega arith) (ap not (eq-eqb _ _ (c .if3 .taken)))))
 
 loop-again : tie.Need-loop-again Inv-loop μ-loop
 loop-again c =
     let l = c .before .before .loop in
-    (omega arith, omega arith, every-more (l .i) _ (l .inv .2) (ap not (ne-eqb _ _ (c .if2 .left))))
+    (omega arith, omega arith, every-more (l .i) _ (l .inv .2) (ap not (ne-eqb _ _ (c .if3 .left))))
 
-returns-3 : tie.Need-returns-3 Inv-loop μ-loop
+returns-4 : tie.Need-returns-4 Inv-loop μ-loop
 unfolding everyReached
-returns-3 c =
+returns-4 c =
     let l = c .before .loop in
-    let e : l .i ≡ c .before .before .before .before .args .n = omega arith in
+    let e : l .i ≡ c .before .before .before .before .before .before .args .n = omega arith in
     sym (rw (e, c .before .before .spread .ensures) at (l .inv .2))
 
 pub every-reached-spec : {M : Type 1} → statement M
@@ -48,5 +48,5 @@ every-reached-spec =
     (tie.spec
     Inv-loop
     μ-loop
-    returns (λ c κs. search needs) loop-holds (λ c. search needs) returns-2 (λ c. search needs)
-    (λ c. search needs) loop-again returns-3)
+    returns (λ c κs. search needs) (λ c. sym (c .before .in-order .ensures (c .if2 .taken))) (λ c κs. search needs) loop-holds (λ c. search needs) returns-3 (λ c. search needs)
+    (λ c. search needs) loop-again returns-4)

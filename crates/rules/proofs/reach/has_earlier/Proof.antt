@@ -5,8 +5,8 @@ use native.Mathlib.Omega.{arith}
 use borrow.Author.Needs.{needs}
 use borrow.Author.Tests.{ne-eqb}
 use Rattle.reset.specs.Reach.{limit, linked}
-use Rattle.rules.proofs.network.has_earlier.Statement.{statement}
-use Rattle.rules.proofs.network.has_earlier.Tie as tie
+use Rattle.rules.proofs.reach.has_earlier.Statement.{statement}
+use Rattle.rules.proofs.reach.has_earlier.Tie as tie
 
 abbrev Inv-loop : tie.InvT-loop
 Inv-loop j limits i₀ i = i ≤ j
