@@ -4,7 +4,7 @@ use mathlib.Core.Path.{_≡_}
 use mathlib.Core.List.{List, []}
 use mathlib.Core.Bool.{Bool, true, false, cond}
 use lib.Dec.{eqb}
-use Rattle.turnover_output.specs.Written.{Written}
+use Rattle.turnover_output.specs.TextAt.{TextAt}
 use Rattle.turnover_output.specs.Answer.{entryText, modeText, refusedText, setupText, badText, longest}
 use Rattle.turnover_input.specs.declared.command.Command.{Command}
 use Rattle.turnover_input.specs.declared.command.Command.the-variants.{Net, Allow, Link, Enter, Send, Recv, Start, Bad}
@@ -17,7 +17,7 @@ use Rattle.station.specs.View.{modeView}
 use Rattle.steps.specs.declared.answer.Answer.{Answer as CodeAnswer}
 use Rattle.steps.specs.declared.answer.Answer.the-variants.{Refused, Entered, InMode}
 use Rattle.turnover_settings.specs.declared.Run.{Run}
-use Rattle.turnover_commands.specs.declared.Told.{Told}
+use Rattle.turnover_commands.specs.declared.Reply.{Reply}
 use Rattle.turnover_settings.specs.declared.Stage.{Stage}
 use Rattle.turnover_settings.specs.declared.Stage.the-variants.{Opening, Setting, Stepping, Ended}
 use Rattle.turnover_settings.specs.Settings.{namedRun, stagedRun, numberedRun, allowedRun, linkSet, blockOf, setUp}
@@ -147,11 +147,11 @@ codeText number i n e (InMode m p) = modeText number p i (modeByte (modeView m))
 
 -- ---- what the calls promise
 -- the call told t: it answered the run after, left these buffers, and printed the text from `at` on
-pub record Tells (t : Telling) (old : List ℕ) (at : ℕ) (r : Told) (b a out : List ℕ) : Type 0 where
+pub record Replies (t : Telling) (old : List ℕ) (at : ℕ) (r : Reply) (b a out : List ℕ) : Type 0 where
   pub run : r .run ≡ t .after .run
   pub block : b ≡ t .after .block
   pub area : a ≡ t .after .area
-  pub text : Written old at (t .text) (r .end) out
+  pub text : TextAt old at (t .text) (r .end) out
   pub short : r .end ≤ at + longest
 
 -- after setup the area is the image of a well-formed state

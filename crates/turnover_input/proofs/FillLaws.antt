@@ -8,7 +8,7 @@ use lib.ListN.{length, drop, getD, drop-of-length-le}
 use borrow.Author.Tests.{eq-eqb, ne-eqb}
 use Rattle.turnover_input.proofs.FieldLaws.{here}
 use Rattle.turnover_input.specs.Lines.{ends, before, behind}
-use Rattle.turnover_input.specs.Kept.{Kept, Fills}
+use Rattle.turnover_input.specs.Kept.{HoldsLine, Fills}
 use Rattle.turnover_input.specs.declared.lines.Filled.{Filled}
 
 -- the bytes from `at` up to i are in the buffer, and none of them is a line feed
@@ -19,16 +19,16 @@ pub record Filling (old : List ℕ) (have : ℕ) (bytes : List ℕ) (at : ℕ) (
   pub inside : i ≤ length bytes
   pub whole : ends (drop i bytes) ≡ ends (drop at bytes)
   pub rest : behind (drop i bytes) ≡ behind (drop at bytes)
-  pub line : (t : List ℕ) → Kept old have t → (k : List ℕ) × Kept new n k × (k ++ before (drop i bytes) ≡ t ++ before (drop at bytes))
+  pub line : (t : List ℕ) → HoldsLine old have t → (k : List ℕ) × HoldsLine new n k × (k ++ before (drop i bytes) ≡ t ++ before (drop at bytes))
 
-pub filling-none : (l bytes : List ℕ) (have at : ℕ) → length l ≡ 32 → have ≤ 32 → at ≤ length bytes → Filling l have bytes at l have at
-filling-none l bytes have at s h g =
+pub filling-none : {l bytes : List ℕ} {have at : ℕ} → length l ≡ 32 → have ≤ 32 → at ≤ length bytes → Filling l have bytes at l have at
+filling-none s h g =
     record { size = s; fits = h; from = omega arith; inside = g; whole = refl; rest = refl; line = λ t k. (t, k, refl) }
 
-module _ (old : List ℕ) (have : ℕ) (bytes : List ℕ) (at : ℕ) (new : List ℕ) (n i : ℕ) (f : Filling old have bytes at new n i) where
+module _ {old : List ℕ} {have : ℕ} {bytes : List ℕ} {at : ℕ} {new : List ℕ} {n i : ℕ} (f : Filling old have bytes at new n i) where
   -- a byte that is no line feed
   pub filling-more : (next : List ℕ) (m : ℕ) → i < length bytes → (getD bytes i 0 ≡ 10 → ⊥) → length next ≡ 32 → m ≤ 32
-      → ((t : List ℕ) → Kept new n t → Kept next m (t ++ (getD bytes i 0 ∷ []))) → Filling old have bytes at next m (i + 1)
+      → ((t : List ℕ) → HoldsLine new n t → HoldsLine next m (t ++ (getD bytes i 0 ∷ []))) → Filling old have bytes at next m (i + 1)
   unfolding ends behind before
   filling-more next m h d s g w =
       let e = here bytes i h in

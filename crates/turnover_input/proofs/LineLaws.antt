@@ -5,7 +5,7 @@ use mathlib.Core.Bool.{Bool, true, false, cond, true≢false}
 use mathlib.Core.List.{List, [], _∷_, _++_, append-assoc, append-nil}
 use lib.Dec.{eqb}
 use borrow.Author.Tests.{eqb-true}
-use Rattle.turnover_input.specs.Lines.{unended, ended, splitFrom, andThen, joined, ends, before, behind}
+use Rattle.turnover_input.specs.Lines.{unended, ended, splitFrom, andThen, joined, ends, Clean, before, behind}
 
 -- a part, and what comes after it
 pub split-append : (line a b : List ℕ) → splitFrom line (a ++ b) ≡ andThen (splitFrom line a) b
@@ -43,10 +43,6 @@ split-joined line (x ∷ a) = go (eqb x 10) refl (split-joined [] a) (split-join
     go false e f g = rw e (g ∙ append-assoc line (x ∷ []) a)
 
 -- no line has a line feed in it: with the law above, there is no other split
-abbrev pub Clean : List (List ℕ) → Type 0
-Clean [] = Unit
-Clean (l ∷ ls) = (ends l ≡ false) × Clean ls
-
 ends-none : ends [] ≡ false
 unfolding ends
 ends-none = refl

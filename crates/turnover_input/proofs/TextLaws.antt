@@ -15,7 +15,7 @@ use Rattle.turnover_input.specs.Fields.{numbersOf}
 use Rattle.turnover_input.proofs.NumberLaws.{Spells, numbers-one, numbers-two, numbers-three, numbers-sound}
 use Rattle.turnover_input.specs.declared.fields.Numbers.{Numbers}
 use Rattle.turnover_input.specs.declared.fields.Numbers.the-variants.{One, Two, Three, Malformed}
-use Rattle.turnover_input.specs.Text.{defaultLimit, textOf, wellMade, IsText, Says}
+use Rattle.turnover_input.specs.Text.{defaultLimit, textOf, wellMade, IsText, Means}
 use Rattle.turnover_input.specs.Parse.{made, ofOne, ofTwo, ofThree, linkOf, startsWith, parseOf}
 use Rattle.turnover_input.specs.declared.command.Command.{Command}
 use Rattle.turnover_input.specs.declared.command.Command.the-variants.{Net, Allow, Link, Enter, Send, Recv, Start, Bad}
@@ -106,10 +106,10 @@ pub parse-is : (l : List ℕ) (c : Command) → IsText l c → parseOf l ≡ c
 parse-is l c t = rw (t .1 .1) at (parse-text (t .1 .0) c (t .0))
 
 -- the computed command is what the line says
-pub parse-says : (l : List ℕ) → Says l (parseOf l)
-parse-says l = go (parse-sound l)
+pub parse-means : (l : List ℕ) → Means l (parseOf l)
+parse-means l = go (parse-sound l)
   where
-    go : Sound l (parseOf l) → Says l (parseOf l)
+    go : Sound l (parseOf l) → Means l (parseOf l)
     go (inr t) = inl t
     go (inl e) = inr (e, λ d t. bad-none d (t .0) (sym e ∙ parse-is l d t))
       where
@@ -117,20 +117,20 @@ parse-says l = go (parse-sound l)
         bad-none d w q = false≢true (rw (sym q) at w)
 
 -- a line says one thing
-pub says-parse : (l : List ℕ) (c : Command) → Says l c → c ≡ parseOf l
-says-parse l c (inl t) = sym (parse-is l c t)
-says-parse l c (inr n) = go (parse-sound l)
+pub means-parse : (l : List ℕ) (c : Command) → Means l c → c ≡ parseOf l
+means-parse l c (inl t) = sym (parse-is l c t)
+means-parse l c (inr n) = go (parse-sound l)
   where
     go : Sound l (parseOf l) → c ≡ parseOf l
     go (inl e) = n .0 ∙ sym e
     go (inr t) = absurd (n .1 (parseOf l) t)
 
-pub says-exact : (l : List ℕ) (c : Command) → Says l c ↔ (c ≡ parseOf l)
-says-exact l c = (says-parse l c, λ e. subst (λ (d : Command). Says l d) (sym e) (parse-says l))
+pub means-exact : (l : List ℕ) (c : Command) → Means l c ↔ (c ≡ parseOf l)
+means-exact l c = (means-parse l c, λ e. subst (λ (d : Command). Means l d) (sym e) (parse-means l))
 
-pub one-meaning : (l : List ℕ) (c d : Command) → Says l c → Says l d → c ≡ d
-one-meaning l c d s t = says-parse l c s ∙ sym (says-parse l d t)
+pub one-meaning : (l : List ℕ) (c d : Command) → Means l c → Means l d → c ≡ d
+one-meaning l c d s t = means-parse l c s ∙ sym (means-parse l d t)
 
 -- for a call that answers the computed command
-pub both-ways : (l : List ℕ) (r : Command) → r ≡ parseOf l → (r ≡ parseOf l) × Says l r
-both-ways l r e = (e, says-exact l r .1 e)
+pub both-ways : (l : List ℕ) (r : Command) → r ≡ parseOf l → (r ≡ parseOf l) × Means l r
+both-ways l r e = (e, means-exact l r .1 e)

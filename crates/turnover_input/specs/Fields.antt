@@ -16,9 +16,13 @@ pub data Item : Type 0 where
   number : ℕ → List ℕ → Item
   other : Item
 
--- no digit may follow a number that is 0, nor one that leads past four bytes, the widest field
+-- the widest field has four bytes
+abbrev pub greatest : ℕ
+greatest = 4294967295
+
+-- no digit may follow a number that is 0, nor one that leads past the greatest
 unfoldable pub stuck : ℕ → ℕ → Bool
-stuck v x = eqb v 0 || ltb 4294967295 (v * 10 + (x - 48))
+stuck v x = eqb v 0 || ltb greatest (v * 10 + (x - 48))
 
 -- the rest of a number that is v so far
 unfoldable pub more : ℕ → List ℕ → Item

@@ -1,5 +1,6 @@
 -- The lines of an input. Assumes nothing.
 use Prim.Native.Nat.{ℕ}
+use mathlib.Core.Path.{_≡_}
 use mathlib.Core.Bool.{Bool, true, false, cond}
 use mathlib.Core.List.{List, [], _∷_, _++_}
 use lib.Dec.{eqb}
@@ -49,6 +50,11 @@ joined (l ∷ ls) = l ++ (10 ∷ joined ls)
 unfoldable pub ends : List ℕ → Bool
 ends [] = false
 ends (b ∷ l) = cond (eqb b 10) true (ends l)
+
+-- no line has a line feed in it
+abbrev pub Clean : List (List ℕ) → Type 0
+Clean [] = Unit
+Clean (l ∷ ls) = (ends l ≡ false) × Clean ls
 
 -- what stands before the first line feed, and behind it
 unfoldable pub before : List ℕ → List ℕ

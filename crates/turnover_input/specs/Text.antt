@@ -41,5 +41,5 @@ abbrev pub IsText : List ℕ → Command → Type 0
 IsText line c = (wellMade c ≡ true) × ((brief : Bool) × (textOf brief c ≡ line))
 
 -- what a line says: the well-made command of which it is a text, or Bad where it is a text of none
-abbrev pub Says : List ℕ → Command → Type 0
-Says line c = IsText line c ⊎ ((c ≡ Bad) × ((d : Command) → IsText line d → ⊥))
+abbrev pub Means : List ℕ → Command → Type 0
+Means line c = IsText line c ⊎ ((c ≡ Bad) × ((d : Command) → IsText line d → ⊥))

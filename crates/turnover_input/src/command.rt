@@ -1,7 +1,7 @@
 // A line of turnover's input to a command.
 use crate::fields::Numbers;
 ghost use mathlib.Core.Path.{_≡_};
-ghost use Rattle.turnover_input.specs.Text.{Says};
+ghost use Rattle.turnover_input.specs.Text.{Means};
 ghost use Rattle.turnover_input.specs.Parse.{made, ofOne, ofTwo, ofThree, linkOf, startsWith, parseOf};
 
 // What a line says.
@@ -173,7 +173,7 @@ fn starts(word: &[u8], line: &[u8]) -> bool
 // The command that a line says.
 pub fn parse(line: &[u8]) -> Command
     ensures { λ r. ⌜ r ≡ parseOf (now (line .entry)) ⌝ }
-    ensures { λ r. ⌜ Says (now (line .entry)) r ⌝ }
+    ensures { λ r. ⌜ Means (now (line .entry)) r ⌝ }
 {
     if starts(b"net ", line) {
         return net(crate::fields::numbers_at(line, 4));

@@ -1,9 +1,9 @@
 // The numbers of a line.
 ghost use mathlib.Core.Path.{_≡_};
-ghost use Prim.Native.Nat.{_<_};
+ghost use Prim.Native.Nat.{_<_, _≤_};
 ghost use lib.ListN.{drop};
 ghost use Rattle.decimal.specs.Decimal.{digit};
-ghost use Rattle.turnover_input.specs.Fields.{item, first, more, seen, secondOf, thirdOf, numbersOf};
+ghost use Rattle.turnover_input.specs.Fields.{greatest, item, first, more, seen, secondOf, thirdOf, numbersOf};
 
 // What stands at a place of a line: its end, a number with the place behind it, or something else.
 pub enum Field {
@@ -37,7 +37,7 @@ fn wide(x: u8) -> u64
 
 // The digits from `from` on, behind a number that is `start` so far.
 fn digits(line: &[u8], from: usize, start: u64) -> Field
-    requires { ⌜ start < 4294967296 ⌝ }
+    requires { ⌜ start ≤ greatest ⌝ }
     ensures { λ r. ⌜ seen (now (line .entry)) r ≡ more start (drop from (now (line .entry))) ⌝ }
 {
     let mut v = start;

@@ -4,9 +4,12 @@ ghost use mathlib.Core.Path.{_≡_};
 ghost use mathlib.Core.List.{List, [], _∷_, _++_};
 ghost use Prim.Native.Nat.{ℕ, _≤_};
 ghost use lib.ListN.{length};
-ghost use Rattle.turnover_input.specs.Text.{Says};
+ghost use Rattle.turnover_input.specs.Text.{Means};
 ghost use Rattle.turnover_input.specs.Parse.{parseOf};
-ghost use Rattle.turnover_input.specs.Kept.{Kept, Fills};
+ghost use Rattle.turnover_input.specs.Kept.{lineSize, HoldsLine, Fills};
+
+// How many bytes of a line are kept.
+pub const LINE_SIZE: usize = 32;
 
 // How much of a line is kept, the place behind what was read, and whether the line is whole.
 pub struct Filled {
@@ -17,11 +20,11 @@ pub struct Filled {
 
 // One more byte of a line.
 fn keep(line: &mut [u8], have: usize, b: u8) -> usize
-    requires { ⌜ (have ≤ 32) × (length (now line) ≡ 32) ⌝ }
-    ensures { λ r. ⌜ r ≤ 32 ⌝ }
-    ensures { λ r. ⌜ ((t : List ℕ) → Kept (now (line .entry)) have t → Kept (now (line .exit)) r (t ++ (b ∷ []))) ⌝ }
+    requires { ⌜ (have ≤ lineSize) × (length (now line) ≡ lineSize) ⌝ }
+    ensures { λ r. ⌜ r ≤ lineSize ⌝ }
+    ensures { λ r. ⌜ ((t : List ℕ) → HoldsLine (now (line .entry)) have t → HoldsLine (now (line .exit)) r (t ++ (b ∷ []))) ⌝ }
 {
-    if have < 32 {
+    if have < LINE_SIZE {
         line[have] = b;
         return have + 1;
     }
@@ -30,7 +33,7 @@ fn keep(line: &mut [u8], have: usize, b: u8) -> usize
 
 // More of a line: the bytes from `at` up to the first line feed, or all where there is none.
 pub fn fill(line: &mut [u8], have: usize, bytes: &[u8], at: usize) -> Filled
-    requires { ⌜ (have ≤ 32) × (length (now line) ≡ 32) × (at ≤ length (now bytes)) ⌝ }
+    requires { ⌜ (have ≤ lineSize) × (length (now line) ≡ lineSize) × (at ≤ length (now bytes)) ⌝ }
     ensures { λ r. ⌜ Fills (now (line .entry)) have (now (bytes .entry)) at r (now (line .exit)) ⌝ }
 {
     let mut n = have;
@@ -56,8 +59,8 @@ pub fn fill(line: &mut [u8], have: usize, bytes: &[u8], at: usize) -> Filled
 
 // The command of a whole line.
 pub fn said(line: &[u8], have: usize) -> Command
-    requires { ⌜ (have ≤ 32) × (length (now line) ≡ 32) ⌝ }
-    ensures { λ r. ⌜ ((t : List ℕ) → Kept (now (line .entry)) have t → (r ≡ parseOf t) × Says t r) ⌝ }
+    requires { ⌜ (have ≤ lineSize) × (length (now line) ≡ lineSize) ⌝ }
+    ensures { λ r. ⌜ ((t : List ℕ) → HoldsLine (now (line .entry)) have t → (r ≡ parseOf t) × Means t r) ⌝ }
 {
     crate::command::parse(&line[..have])
 }

@@ -16,8 +16,6 @@ use Rattle.decimal.specs.Decimal.{decimal, spaced}
 use Rattle.decimal.proofs.DecimalLaws.{decimal-length}
 use Rattle.codec.proofs.EveryLaws.{both}
 use borrow.Author.Tests.{ltb-true, lt-ltb}
-use Rattle.turnover_output.specs.Written.{Written}
-use Rattle.turnover_output.proofs.WrittenLaws.{written-none}
 use Rattle.turnover_output.specs.Answer.{opening}
 
 -- ---- the digits of numbers of eight bytes, four, two, one
@@ -45,9 +43,6 @@ spaced-snoc (y ∷ l) x = rw (spaced-snoc l x) (simp append-assoc)
 
 pub spaced-more : (l : List ℕ) (i : ℕ) → i < length l → spaced (take (i + 1) l) ≡ spaced (take i l) ++ ascii " " ++ decimal (getD l i 0)
 spaced-more l i h = rw (add-one, take-suc l i 0 h) (spaced-snoc (take i l) (getD l i 0) ∙ simp append-assoc)
-
-pub spaced-none : (d l : List ℕ) (at : ℕ) → Written d at (spaced (take 0 l)) at d
-spaced-none d l at = written-none d at
 
 -- a loop over the first n of eight, n perhaps more
 pub both-below : (i n : ℕ) → (ltb i n && ltb i 8) ≡ true → (i < n) × (i < 8)

@@ -1,3 +1,2 @@
-pub mod WrittenLaws
+pub mod TextAtLaws
 pub mod AnswerLaws
-pub mod Cases

@@ -1,5 +1,5 @@
 -- The lines that turnover prints. Assumes nothing.
-use Prim.Native.Nat.{ℕ}
+use Prim.Native.Nat.{ℕ, _+_}
 use mathlib.Core.Bool.{cond}
 use mathlib.Core.List.{List, [], _∷_, _++_}
 use lib.Dec.{eqb}
@@ -35,6 +35,19 @@ setupText refusal = ascii "no " ++ decimal refusal ++ ascii "\n"
 abbrev pub badText : List ℕ
 badText = ascii "bad\n"
 
--- no line is longer: an entry's number of 20 digits, ` entry `, a phase of 10, a space, a station of 3, eight counts of 5 behind a space each, and the line feed
+-- ---- how long they can be
+-- a number of 20 digits, a phase of 10, a space and a station of 3
+abbrev pub longestNumbers : ℕ
+longestNumbers = 34
+
+-- eight counts of 5 digits, a space before each
+abbrev pub longestCounts : ℕ
+longestCounts = 48
+
+-- `stand-by`
+abbrev pub longestMode : ℕ
+longestMode = 8
+
+-- no line is longer: an entry's numbers, ` entry `, its counts and the line feed
 abbrev pub longest : ℕ
-longest = 90
+longest = longestNumbers + 7 + longestCounts + 1

@@ -3,8 +3,11 @@ ghost use mathlib.Core.Path.{_≡_};
 ghost use Prim.Native.Nat.{_+_, _<_, _≤_};
 ghost use lib.ListN.{length, take};
 ghost use Rattle.decimal.specs.Decimal.{spaced};
-ghost use Rattle.turnover_output.specs.Written.{Written};
-ghost use Rattle.turnover_output.specs.Answer.{opening as Opening, modeWord, entryText, modeText, refusedText, setupText, badText, longest};
+ghost use Rattle.turnover_output.specs.TextAt.{TextAt};
+ghost use Rattle.turnover_output.specs.Answer.{opening as Opening, modeWord, entryText, modeText, refusedText, setupText, badText, longestNumbers, longestCounts, longestMode, longest};
+
+// No line is longer.
+pub const LONGEST: usize = 90;
 
 fn wide(x: u16) -> u64
     ensures { λ r. ⌜ (r ≡ x) × (r < 65536) ⌝ }
@@ -14,9 +17,9 @@ fn wide(x: u16) -> u64
 
 // A step's number, a word, the phase and the station.
 fn opening(out: &mut [u8], at: usize, number: u64, word: &[u8], phase: u32, station: u8) -> usize
-    requires { ⌜ at + length (now word) + 34 ≤ length (now out) ⌝ }
-    ensures { λ r. ⌜ Written (now (out .entry)) at (Opening number (now (word .entry)) phase station) r (now (out .exit)) ⌝ }
-    ensures { λ r. ⌜ r ≤ at + length (now (word .entry)) + 34 ⌝ }
+    requires { ⌜ at + length (now word) + longestNumbers ≤ length (now out) ⌝ }
+    ensures { λ r. ⌜ TextAt (now (out .entry)) at (Opening number (now (word .entry)) phase station) r (now (out .exit)) ⌝ }
+    ensures { λ r. ⌜ r ≤ at + length (now (word .entry)) + longestNumbers ⌝ }
 {
     let a = crate::text::number(out, at, number);
     let b = crate::text::word(out, a, word);
@@ -27,9 +30,9 @@ fn opening(out: &mut [u8], at: usize, number: u64, word: &[u8], phase: u32, stat
 
 // The first n counts, a space before each.
 fn counted(out: &mut [u8], at: usize, counts: [u16; 8], n: u8) -> usize
-    requires { ⌜ at + 48 ≤ length (now out) ⌝ }
-    ensures { λ r. ⌜ Written (now (out .entry)) at (spaced (take n counts)) r (now (out .exit)) ⌝ }
-    ensures { λ r. ⌜ r ≤ at + 48 ⌝ }
+    requires { ⌜ at + longestCounts ≤ length (now out) ⌝ }
+    ensures { λ r. ⌜ TextAt (now (out .entry)) at (spaced (take n counts)) r (now (out .exit)) ⌝ }
+    ensures { λ r. ⌜ r ≤ at + longestCounts ⌝ }
 {
     let most = n as usize;
     let mut end = at;
@@ -53,7 +56,7 @@ pub fn entry(
     n: u8,
 ) -> usize
     requires { ⌜ at + longest ≤ length (now out) ⌝ }
-    ensures { λ r. ⌜ Written (now (out .entry)) at (entryText number phase station counts n) r (now (out .exit)) ⌝ }
+    ensures { λ r. ⌜ TextAt (now (out .entry)) at (entryText number phase station counts n) r (now (out .exit)) ⌝ }
     ensures { λ r. ⌜ r ≤ at + longest ⌝ }
 {
     let a = opening(out, at, number, b" entry ", phase, station);
@@ -62,9 +65,9 @@ pub fn entry(
 }
 
 fn mode_word(out: &mut [u8], at: usize, mode: u8) -> usize
-    requires { ⌜ at + 8 ≤ length (now out) ⌝ }
-    ensures { λ r. ⌜ Written (now (out .entry)) at (modeWord mode) r (now (out .exit)) ⌝ }
-    ensures { λ r. ⌜ r ≤ at + 8 ⌝ }
+    requires { ⌜ at + longestMode ≤ length (now out) ⌝ }
+    ensures { λ r. ⌜ TextAt (now (out .entry)) at (modeWord mode) r (now (out .exit)) ⌝ }
+    ensures { λ r. ⌜ r ≤ at + longestMode ⌝ }
 {
     if mode == 0 {
         return crate::text::word(out, at, b"normal");
@@ -78,7 +81,7 @@ fn mode_word(out: &mut [u8], at: usize, mode: u8) -> usize
 // An accepted step that is no entry.
 pub fn mode(out: &mut [u8], at: usize, number: u64, phase: u32, station: u8, mode: u8) -> usize
     requires { ⌜ at + longest ≤ length (now out) ⌝ }
-    ensures { λ r. ⌜ Written (now (out .entry)) at (modeText number phase station mode) r (now (out .exit)) ⌝ }
+    ensures { λ r. ⌜ TextAt (now (out .entry)) at (modeText number phase station mode) r (now (out .exit)) ⌝ }
     ensures { λ r. ⌜ r ≤ at + longest ⌝ }
 {
     let a = opening(out, at, number, b" mode ", phase, station);
@@ -90,7 +93,7 @@ pub fn mode(out: &mut [u8], at: usize, number: u64, phase: u32, station: u8, mod
 // A refused step.
 pub fn refused(out: &mut [u8], at: usize, number: u64, refusal: u8) -> usize
     requires { ⌜ at + longest ≤ length (now out) ⌝ }
-    ensures { λ r. ⌜ Written (now (out .entry)) at (refusedText number refusal) r (now (out .exit)) ⌝ }
+    ensures { λ r. ⌜ TextAt (now (out .entry)) at (refusedText number refusal) r (now (out .exit)) ⌝ }
     ensures { λ r. ⌜ r ≤ at + longest ⌝ }
 {
     let a = crate::text::number(out, at, number);
@@ -102,7 +105,7 @@ pub fn refused(out: &mut [u8], at: usize, number: u64, refusal: u8) -> usize
 // A refused setup.
 pub fn setup_refused(out: &mut [u8], at: usize, refusal: u8) -> usize
     requires { ⌜ at + longest ≤ length (now out) ⌝ }
-    ensures { λ r. ⌜ Written (now (out .entry)) at (setupText refusal) r (now (out .exit)) ⌝ }
+    ensures { λ r. ⌜ TextAt (now (out .entry)) at (setupText refusal) r (now (out .exit)) ⌝ }
     ensures { λ r. ⌜ r ≤ at + longest ⌝ }
 {
     let a = crate::text::word(out, at, b"no ");
@@ -113,7 +116,7 @@ pub fn setup_refused(out: &mut [u8], at: usize, refusal: u8) -> usize
 // Any other line.
 pub fn bad(out: &mut [u8], at: usize) -> usize
     requires { ⌜ at + longest ≤ length (now out) ⌝ }
-    ensures { λ r. ⌜ Written (now (out .entry)) at badText r (now (out .exit)) ⌝ }
+    ensures { λ r. ⌜ TextAt (now (out .entry)) at badText r (now (out .exit)) ⌝ }
     ensures { λ r. ⌜ r ≤ at + longest ⌝ }
 {
     crate::text::word(out, at, b"bad\n")

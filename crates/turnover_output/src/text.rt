@@ -3,7 +3,7 @@ ghost use mathlib.Core.Path.{_≡_};
 ghost use Prim.Native.Nat.{_+_, _<_, _≤_};
 ghost use lib.ListN.{length};
 ghost use Rattle.decimal.specs.Decimal.{decimal};
-ghost use Rattle.turnover_output.specs.Written.{Written};
+ghost use Rattle.turnover_output.specs.TextAt.{TextAt};
 
 fn digit(d: u64) -> u8
     requires { ⌜ d < 10 ⌝ }
@@ -15,7 +15,7 @@ fn digit(d: u64) -> u8
 // The digits of x, from `at` on; answers the place behind them.
 pub fn number(out: &mut [u8], at: usize, x: u64) -> usize
     requires { ⌜ at + length (decimal x) ≤ length (now out) ⌝ }
-    ensures { λ r. ⌜ Written (now (out .entry)) at (decimal x) r (now (out .exit)) ⌝ }
+    ensures { λ r. ⌜ TextAt (now (out .entry)) at (decimal x) r (now (out .exit)) ⌝ }
 {
     if x < 10 {
         out[at] = digit(x);
@@ -29,7 +29,7 @@ pub fn number(out: &mut [u8], at: usize, x: u64) -> usize
 // A word, from `at` on; answers the place behind it.
 pub fn word(out: &mut [u8], at: usize, w: &[u8]) -> usize
     requires { ⌜ at + length (now w) ≤ length (now out) ⌝ }
-    ensures { λ r. ⌜ Written (now (out .entry)) at (now (w .entry)) r (now (out .exit)) ⌝ }
+    ensures { λ r. ⌜ TextAt (now (out .entry)) at (now (w .entry)) r (now (out .exit)) ⌝ }
 {
     codec::put_bytes(out, at, w);
     at + w.len()

@@ -7,18 +7,18 @@ use lib.Dec.{eqb}
 use native.Mathlib.Omega.{arith}
 use lib.ListN.{length, take, drop, drop-of-length-le}
 use lib.Seq.{take-at}
-use Rattle.turnover_output.specs.Written.{Written}
-use Rattle.turnover_input.specs.Kept.{Kept}
+use Rattle.turnover_output.specs.TextAt.{TextAt}
+use Rattle.turnover_input.specs.Kept.{HoldsLine}
 use Rattle.turnover_input.proofs.KeptLaws.{kept-none}
-use Rattle.turnover_output.proofs.WrittenLaws.{written-none, written-more}
+use Rattle.turnover_output.proofs.TextAtLaws.{text-none, text-more}
 use Rattle.turnover_input.specs.Parse.{parseOf}
 use Rattle.turnover_input.specs.declared.command.Command.{Command}
 use Rattle.turnover_input.specs.Lines.{Split, unended, ended, splitFrom, andThen, allOf, ends, before, behind}
 use Rattle.turnover_input.proofs.LineLaws.{split-append, split-first}
 use Rattle.turnover_settings.specs.declared.Run.{Run}
 use Rattle.turnover_settings.specs.declared.Stage.the-variants.{Ended}
-use Rattle.turnover_commands.specs.declared.Told.{Told}
-use Rattle.turnover_commands.specs.Run.{Standing, Telling, standing, obeyed, obeyedIn, closed, closedIn, Tells}
+use Rattle.turnover_commands.specs.declared.Reply.{Reply}
+use Rattle.turnover_commands.specs.Run.{Standing, Telling, standing, obeyed, obeyedIn, closed, closedIn, Replies}
 use Rattle.turnover_session.specs.declared.Taken.{Taken}
 use Rattle.turnover_session.specs.Turnover.{transcript, beginning, turnover, turnoverFrom, Goes, Passes, Prints, Takes}
 
@@ -59,7 +59,7 @@ unfolding turnoverFrom
 part-line s t d rest more h e = rw (e, behind-none d h) (ap (λ (x : Split). transcript s (allOf x)) (split-part t d more h))
 
 -- ---- where a run stands
-pub stands : (t : Telling) (old : List ℕ) (at : ℕ) (r : Told) (b a out : List ℕ) → Tells t old at r b a out → standing (r .run) b a ≡ t .after
+pub stands : (t : Telling) (old : List ℕ) (at : ℕ) (r : Reply) (b a out : List ℕ) → Replies t old at r b a out → standing (r .run) b a ≡ t .after
 stands t old at r b a out h = rw (h .run, h .block, h .area)
 
 pub line-taken : (s y : Standing) (c : Command) → y ≡ obeyed s c .after → (t d rest more : List ℕ) → ends d ≡ true → rest ≡ behind d → c ≡ parseOf (t ++ before d)
@@ -96,17 +96,17 @@ pub goes-whole : {s y : Standing} {l m input p : List ℕ} {have after : ℕ} (b
 goes-whole {s} {y} {l} {m} {input} {p} {have} {after} bytes n g h = (p, subst (λ (rest : List ℕ). Goes s l have input p y m after rest) (drop-of-length-le bytes h) g)
 
 -- no bytes were taken, and more
-pub takes-none : (run : Run) (line : List ℕ) (have : ℕ) (bytes : List ℕ) (at : ℕ) (block area out : List ℕ) (end : ℕ) → have ≤ 32 → at ≤ length bytes
+pub takes-none : (run : Run) (line : List ℕ) (have : ℕ) (bytes : List ℕ) (at : ℕ) (block area out : List ℕ) (end : ℕ) → have ≤ 32 → at ≤ length bytes → end ≤ length out
     → Takes (standing run block area) line have bytes at out end (record { have = have; next = at; end = end; run = run }) line block area out
-takes-none run line have bytes at block area out end h g =
-    record { text = []; printed = written-none out end; fits = h; inside = g; goes = goes-none _ line have _ }
+takes-none run line have bytes at block area out end h g o =
+    record { text = []; printed = text-none o; fits = h; inside = g; goes = goes-none _ line have _ }
 
 pub takes-more : {s : Standing} {line new last bytes old mid out b a b' a' : List ℕ} {have at end : ℕ} {p q : Taken} → Takes s line have bytes at old end p new b a mid
-    → Takes (standing (p .run) b a) new (p .have) bytes (p .next) mid (p .end) q last b' a' out → p .end ≤ length old → Takes s line have bytes at old end q last b' a' out
-takes-more f g h =
+    → Takes (standing (p .run) b a) new (p .have) bytes (p .next) mid (p .end) q last b' a' out → Takes s line have bytes at old end q last b' a' out
+takes-more f g =
     record {
       text = f .text ++ g .text;
-      printed = written-more (f .printed) (g .printed) h;
+      printed = text-more (f .printed) (g .printed);
       fits = g .fits;
       inside = g .inside;
       goes = goes-more (f .goes) (g .goes);
@@ -122,17 +122,17 @@ unfolding turnoverFrom splitFrom
 end-line s y c e [] n q = absurd (n refl)
 end-line s y c e (x ∷ t) n q = rw (e, q)
 
-written-take : (old text out : List ℕ) (end : ℕ) → Written old 0 text end out → take end out ≡ text
-written-take old text out end w = let n : length text ≡ end = omega (arith, w .next) in rw (w .is) (take-at text _ end n)
+text-taken : (old text out : List ℕ) (end : ℕ) → TextAt old 0 text end out → take end out ≡ text
+text-taken old text out end w = let n : length text ≡ end = omega (arith, w .next) in rw (w .is) (take-at text _ end n)
 
 -- a run that began with nothing set, took the input whole and printed what was left
-pub all-printed : {y : Standing} {l m input old out : List ℕ} {have end : ℕ} → Passes beginning l 0 input y m have → ((t : List ℕ) → Kept m have t → Written old 0 (turnoverFrom y t []) end out) → Prints out end
+pub all-printed : {y : Standing} {l m input old out : List ℕ} {have end : ℕ} → Passes beginning l 0 input y m have → ((t : List ℕ) → HoldsLine m have t → TextAt old 0 (turnoverFrom y t []) end out) → Prints out end
 all-printed {y} {l} {m} {input} {old} {out} {have} {end} p w =
     let x = p .1 .whole [] (kept-none l) in
     record {
       input = input;
       before = p .0;
-      all = sym (whole-input input) ∙ rw append-nil at (x .2 []) ∙ ap (λ (z : List ℕ). p .0 ++ z) (sym (written-take old _ out end (w (x .0) (x .1))));
+      all = sym (whole-input input) ∙ rw append-nil at (x .2 []) ∙ ap (λ (z : List ℕ). p .0 ++ z) (sym (text-taken old _ out end (w (x .0) (x .1))));
     }
 
 -- ---- behind a refused setup nothing is printed

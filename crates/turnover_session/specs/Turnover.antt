@@ -4,11 +4,11 @@ use mathlib.Core.Path.{_≡_}
 use mathlib.Core.List.{List, [], _∷_, _++_}
 use lib.ListN.{length, take, drop}
 use Rattle.codec.specs.Every.{blank}
-use Rattle.turnover_output.specs.Written.{Written}
+use Rattle.turnover_output.specs.TextAt.{TextAt}
 use Rattle.turnover_output.specs.Answer.{longest}
 use Rattle.turnover_input.specs.Parse.{parseOf}
 use Rattle.turnover_input.specs.Lines.{splitFrom, allOf, linesOf}
-use Rattle.turnover_input.specs.Kept.{Kept}
+use Rattle.turnover_input.specs.Kept.{lineSize, HoldsLine}
 use Rattle.turnover_settings.specs.Settings.{openedRun}
 use Rattle.turnover_commands.specs.Run.{Standing, standing, obeyed, closed}
 use Rattle.turnover_session.specs.declared.Taken.{Taken}
@@ -34,7 +34,7 @@ turnoverFrom s line input = transcript s (allOf (splitFrom line input))
 -- an input was taken up to `rest`: whatever line it goes on with and whatever follows it, `text` and what is then to be printed is what was to
 -- be printed before
 pub record Goes (s : Standing) (line : List ℕ) (have : ℕ) (input text : List ℕ) (y : Standing) (new : List ℕ) (after : ℕ) (rest : List ℕ) : Type 0 where
-  pub whole : (t : List ℕ) → Kept line have t → (u : List ℕ) × Kept new after u × ((more : List ℕ) → turnoverFrom s t (input ++ more) ≡ text ++ turnoverFrom y u (rest ++ more))
+  pub whole : (t : List ℕ) → HoldsLine line have t → (u : List ℕ) × HoldsLine new after u × ((more : List ℕ) → turnoverFrom s t (input ++ more) ≡ text ++ turnoverFrom y u (rest ++ more))
 
 -- an input was taken whole, with whatever text
 abbrev pub Passes : Standing → List ℕ → ℕ → List ℕ → Standing → List ℕ → ℕ → Type 0
@@ -49,8 +49,8 @@ pub record Prints (out : List ℕ) (end : ℕ) : Type 0 where
 -- the bytes from `at` to the next place were taken, and the text of their answers stands in the buffer
 pub record Takes (s : Standing) (line : List ℕ) (have : ℕ) (bytes : List ℕ) (at : ℕ) (old : List ℕ) (end : ℕ) (r : Taken) (new : List ℕ) (block area out : List ℕ) : Type 0 where
   pub text : List ℕ
-  pub printed : Written old end text (r .end) out
-  pub fits : r .have ≤ 32
+  pub printed : TextAt old end text (r .end) out
+  pub fits : r .have ≤ lineSize
   pub inside : r .next ≤ length bytes
   pub goes : Goes s line have (drop at bytes) text (standing (r .run) block area) new (r .have) (drop (r .next) bytes)
 

@@ -1,12 +1,13 @@
 // A run of turnover over an input that comes in parts: a line at a time, each printed into a lent buffer.
+use turnover_output::answer::LONGEST;
 use turnover_settings::Run;
 ghost use mathlib.Core.Path.{_≡_};
 ghost use mathlib.Core.List.{List, []};
 ghost use Prim.Native.Nat.{ℕ, _+_, _≤_};
 ghost use lib.ListN.{length};
 ghost use Rattle.turnover_output.specs.Answer.{longest};
-ghost use Rattle.turnover_output.specs.Written.{Written};
-ghost use Rattle.turnover_input.specs.Kept.{Kept};
+ghost use Rattle.turnover_output.specs.TextAt.{TextAt};
+ghost use Rattle.turnover_input.specs.Kept.{lineSize, HoldsLine};
 ghost use Rattle.turnover_commands.specs.Run.{standing, Ready};
 ghost use Rattle.turnover_session.specs.Turnover.{turnoverFrom, Takes, OneLine, AllThatFits};
 
@@ -17,9 +18,6 @@ pub struct Taken {
     pub end: usize,
     pub run: Run,
 }
-
-// The longest line that is printed.
-const LONGEST: usize = 90;
 
 // Takes the bytes from `at` up to the first line feed, or all where there is none, and obeys the line that ends there.
 fn take(
@@ -33,7 +31,7 @@ fn take(
     end: usize,
     run: Run,
 ) -> Taken
-    requires { ⌜ (have ≤ 32) × (length (now line) ≡ 32) × (at ≤ length (now bytes)) × (end + longest ≤ length (now out)) × (length (now block) ≡ 512) × Ready (run .stage) (now area) ⌝ }
+    requires { ⌜ (have ≤ lineSize) × (length (now line) ≡ lineSize) × (at ≤ length (now bytes)) × (end + longest ≤ length (now out)) × (length (now block) ≡ 512) × Ready (run .stage) (now area) ⌝ }
     ensures { λ r. ⌜ Takes (standing run (now (block .entry)) (now (area .entry))) (now (line .entry)) have (now (bytes .entry)) at (now (out .entry)) end r (now (line .exit)) (now (block .exit)) (now (area .exit)) (now (out .exit)) ⌝ }
     ensures { λ r. ⌜ OneLine (now (bytes .entry)) at end r ⌝ }
     ensures { λ r. ⌜ Ready (r .run .stage) (now (area .exit)) ⌝ }
@@ -79,7 +77,7 @@ pub fn take_lines(
     end: usize,
     run: Run,
 ) -> Taken
-    requires { ⌜ (have ≤ 32) × (length (now line) ≡ 32) × (at ≤ length (now bytes)) × (end ≤ length (now out)) × (length (now block) ≡ 512) × Ready (run .stage) (now area) ⌝ }
+    requires { ⌜ (have ≤ lineSize) × (length (now line) ≡ lineSize) × (at ≤ length (now bytes)) × (end ≤ length (now out)) × (length (now block) ≡ 512) × Ready (run .stage) (now area) ⌝ }
     ensures { λ r. ⌜ Takes (standing run (now (block .entry)) (now (area .entry))) (now (line .entry)) have (now (bytes .entry)) at (now (out .entry)) end r (now (line .exit)) (now (block .exit)) (now (area .exit)) (now (out .exit)) ⌝ }
     ensures { λ r. ⌜ AllThatFits (now (bytes .entry)) at (now (out .entry)) end r ⌝ }
     ensures { λ r. ⌜ Ready (r .run .stage) (now (area .exit)) ⌝ }
@@ -110,8 +108,8 @@ pub fn finish(
     end: usize,
     run: Run,
 ) -> usize
-    requires { ⌜ (have ≤ 32) × (length (now line) ≡ 32) × (end + (longest + longest) ≤ length (now out)) × (length (now block) ≡ 512) × Ready (run .stage) (now area) ⌝ }
-    ensures { λ r. ⌜ ((t : List ℕ) → Kept (now (line .entry)) have t → Written (now (out .entry)) end (turnoverFrom (standing run (now (block .entry)) (now (area .entry))) t []) r (now (out .exit))) ⌝ }
+    requires { ⌜ (have ≤ lineSize) × (length (now line) ≡ lineSize) × (end + (longest + longest) ≤ length (now out)) × (length (now block) ≡ 512) × Ready (run .stage) (now area) ⌝ }
+    ensures { λ r. ⌜ ((t : List ℕ) → HoldsLine (now (line .entry)) have t → TextAt (now (out .entry)) end (turnoverFrom (standing run (now (block .entry)) (now (area .entry))) t []) r (now (out .exit))) ⌝ }
     ensures { λ r. ⌜ r ≤ end + (longest + longest) ⌝ }
 {
     if have == 0 {

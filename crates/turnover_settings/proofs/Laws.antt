@@ -13,13 +13,8 @@ use lib.Seq.{set-split, getD-set-same, getD-set-other}
 use borrow.Author.Tests.{eq-eqb, ne-eqb, lt-ltb}
 use Rattle.codec.specs.Splice.{splice}
 use Rattle.codec.proofs.SpliceLaws.{splice-length}
-use Rattle.header.specs.Header.{tableAt}
 use Rattle.header.proofs.Laws.{table-at}
-use Rattle.turnover_settings.specs.Settings.{allowanceSet, limitSet, linkSet}
-
--- the limit from a to b in a header block in the making
-abbrev pub limitIn : List ℕ → ℕ → ℕ → ℕ
-limitIn block a b = getD (getD (tableAt 8 block 32) a []) b 0
+use Rattle.turnover_settings.specs.Settings.{allowanceSet, limitSet, linkSet, limitIn}
 
 -- allow i x: the allowance of i is x, the others are as they were
 pub allow-sets : (v : List ℕ) → length v ≡ 8 → (i x : ℕ) → i < 8 → (k : ℕ) → getD (allowanceSet v i x) k 0 ≡ cond (eqb k i) x (getD v k 0)

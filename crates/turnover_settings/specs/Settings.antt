@@ -3,7 +3,7 @@ use Prim.Native.Nat.{ℕ, _+_, _*_}
 use mathlib.Core.List.{List, [], _∷_}
 use mathlib.Core.Bool.{cond, _&&_}
 use lib.Dec.{eqb, ltb}
-use lib.ListN.{replicate, set}
+use lib.ListN.{getD, replicate, set}
 use Rattle.codec.specs.Splice.{splice}
 use Rattle.codec.specs.Written.{Written}
 use Rattle.header.specs.declared.Header.{Header}
@@ -44,6 +44,10 @@ limitSet block i j l = cond (ltb i 8 && ltb j 8) (splice block (32 + 8 * i + j) 
 -- after `link`, which sets both ways
 abbrev pub linkSet : List ℕ → ℕ → ℕ → ℕ → List ℕ
 linkSet block i j l = limitSet (limitSet block i j l) j i l
+
+-- the limit from a to b in a header block in the making
+abbrev pub limitIn : List ℕ → ℕ → ℕ → ℕ
+limitIn block a b = getD (getD (tableAt 8 block 32) a []) b 0
 
 -- the settings but for the limits
 abbrev pub settingsOf : Run → Header

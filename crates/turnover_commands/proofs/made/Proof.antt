@@ -3,14 +3,14 @@ use mathlib.Core.Path.{refl}
 use native.Mathlib.Omega.{arith}
 use borrow.Author.Tests.{eq-eqb, ne-eqb}
 use borrow.Author.Needs.{needs}
-use Rattle.turnover_output.proofs.WrittenLaws.{written-none}
+use Rattle.turnover_output.proofs.TextAtLaws.{text-none}
 use Rattle.turnover_commands.proofs.Laws.{told-text}
 use Rattle.turnover_commands.specs.Run.{lastNumber}
 use Rattle.turnover_commands.proofs.made.Statement.{statement}
 use Rattle.turnover_commands.proofs.made.Tie as tie
 
 returns : tie.Need-returns
-returns c = λ b a o e f. rw (eq-eqb _ lastNumber (c .before .if1 .taken)) (record { run = c .staged .ensures; block = refl; area = f; text = written-none _ _; short = omega arith })
+returns c = λ b a o e f. rw (eq-eqb _ lastNumber (c .before .if1 .taken)) (record { run = c .staged .ensures; block = refl; area = f; text = text-none (omega arith); short = omega arith })
 
 returns-2 : tie.Need-returns-2
 returns-2 c = λ b a o e f.

@@ -3,11 +3,10 @@ use borrow.Author.Needs.{needs}
 use Rattle.turnover_settings.proofs.allowed.Statement.{statement}
 use Rattle.turnover_settings.proofs.allowed.Tie as tie
 
-returns : tie.Need-returns
-returns c = rw (lt-ltb _ 8 (c .if1 .taken))
-
-returns-2 : tie.Need-returns-2
-returns-2 c = rw (le-ltb _ 8 (c .if1 .left))
-
 pub allowed-spec : {M : Type 1} → statement M
-allowed-spec = tie.close (tie.spec (λ c. search needs) (λ c. search needs) returns returns-2)
+allowed-spec =
+    tie.close
+    (tie.spec
+    (λ c. search needs) (λ c. search needs)
+    (λ c. rw (lt-ltb _ 8 (c .if1 .taken)))
+    (λ c. rw (le-ltb _ 8 (c .if1 .left))))

@@ -5,9 +5,6 @@ use borrow.Author.Needs.{needs}
 use Rattle.turnover_input.proofs.command.send.Statement.{statement}
 use Rattle.turnover_input.proofs.command.send.Tie as tie
 
-returns : tie.Need-returns
-returns c = not-three Send (c .before .args .x) (c .match .keys2)
-
 cast-t10 : tie.Need-cast-t10
 cast-t10 c = omega (arith, below3 (c .before .before .x .given .0 .0) 8 (c .before .before .x .given .0 .1 .0) 8 (c .before .before .x .given .0 .1 .1 .0) 4294967296 (c .if1 .taken))
 
@@ -17,12 +14,12 @@ cast-t11 c = omega (arith, below3 (c .before .before .x .given .0 .0) 8 (c .befo
 cast-t12 : tie.Need-cast-t12
 cast-t12 c = omega (arith, below3 (c .before .before .x .given .0 .0) 8 (c .before .before .x .given .0 .1 .0) 8 (c .before .before .x .given .0 .1 .1 .0) 4294967296 (c .if1 .taken))
 
-returns-2 : tie.Need-returns-2
-returns-2 c = rw (c .before .before .x .given .1, c .if1 .taken)
-
-returns-3 : tie.Need-returns-3
-returns-3 c = rw (c .before .before .x .given .1, c .if1 .left)
-
 pub send-spec : {M : Type 1} → statement M
 send-spec =
-    tie.close (tie.spec (λ c. search needs) returns cast-t10 cast-t11 cast-t12 returns-2 returns-3)
+    tie.close
+    (tie.spec
+    (λ c. search needs)
+    (λ c. not-three Send (c .before .args .x) (c .match .keys2))
+    cast-t10 cast-t11 cast-t12
+    (λ c. rw (c .before .before .x .given .1, c .if1 .taken))
+    (λ c. rw (c .before .before .x .given .1, c .if1 .left)))

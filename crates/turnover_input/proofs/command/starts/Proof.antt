@@ -13,26 +13,17 @@ Inv-loop word line i₀ i = startsWith (drop i word) (drop i line) ≡ startsWit
 abbrev μ-loop : tie.MeasureT-loop
 μ-loop word line i₀ i = length word - i
 
-loop-holds : tie.Need-loop-holds Inv-loop μ-loop
-loop-holds c = refl
-
-returns : tie.Need-returns Inv-loop μ-loop
-returns c = line-out _ _ (c .before .before .loop .i) (c .before .loop-test .taken) (c .if1 .taken) ∙ c .before .before .loop .inv
-
 returns-2 : tie.Need-returns-2 Inv-loop μ-loop
 returns-2 c = differ _ _ (c .before .before .before .before .before .loop .i) (omega arith) (omega arith) (c .if2 .taken) ∙ c .before .before .before .before .before .loop .inv
 
 loop-again : tie.Need-loop-again Inv-loop μ-loop
 loop-again c = agree _ _ (c .before .before .before .before .before .loop .i) (omega arith) (omega arith) (c .if2 .left) ∙ c .before .before .before .before .before .loop .inv
 
-returns-3 : tie.Need-returns-3 Inv-loop μ-loop
-returns-3 c = word-out _ _ (c .before .loop .i) (omega arith) ∙ c .before .loop .inv
-
 pub starts-spec : {M : Type 1} → statement M
 starts-spec =
     tie.close
     (tie.spec
-    Inv-loop
-    μ-loop
-    loop-holds returns (λ c. omega arith) (λ c. omega arith) returns-2 (λ c. omega arith)
-    (λ c. omega arith) loop-again returns-3)
+    Inv-loop μ-loop (λ c. refl)
+    (λ c. line-out _ _ (c .before .before .loop .i) (c .before .loop-test .taken) (c .if1 .taken) ∙ c .before .before .loop .inv)
+    (λ c. omega arith) (λ c. omega arith) returns-2 (λ c. omega arith) (λ c. omega arith) loop-again
+    (λ c. word-out _ _ (c .before .loop .i) (omega arith) ∙ c .before .loop .inv))

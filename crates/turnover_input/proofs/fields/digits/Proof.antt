@@ -16,16 +16,10 @@ Inv-loop s from start v₀ i₀ v i = (v < 4294967296) × (more v (drop i s) ≡
 abbrev μ-loop : tie.MeasureT-loop
 μ-loop s from start v₀ i₀ v i = length s - i
 
-loop-holds : tie.Need-loop-holds Inv-loop μ-loop
-loop-holds c = (omega arith, refl)
-
 returns : tie.Need-returns Inv-loop μ-loop
 returns c =
     let k = c .before .before .before .before in
     stops _ (k .loop .v) (k .loop .i) (omega arith) (sym (c .before .is-digit .ensures) ∙ not-true _ (c .if1 .taken)) ∙ k .loop .inv .1
-
-mul-w : tie.Need-mul-w Inv-loop μ-loop
-mul-w c = omega (arith, c .before .before .before .before .loop .inv)
 
 sub-w : tie.Need-sub-w Inv-loop μ-loop
 sub-w c =
@@ -51,14 +45,13 @@ loop-again c =
     let d = sym (c .before .before .before .is-digit .ensures) ∙ not-false _ (c .before .before .if1 .left) in
     (under (k .loop .v) _ (c .if2 .left), goes _ (k .loop .v) (k .loop .i) _ (c .before .wide .ensures .0) (omega arith) d (c .if2 .left) ∙ k .loop .inv .1)
 
-returns-3 : tie.Need-returns-3 Inv-loop μ-loop
-returns-3 c = ends _ _ (c .before .loop .i) (omega arith) ∙ c .before .loop .inv .1
-
 pub digits-spec : {M : Type 1} → statement M
 digits-spec =
     tie.close
     (tie.spec
-    Inv-loop
-    μ-loop
-    loop-holds (λ c. search needs) (λ c κs. search needs) returns mul-w (λ c κs. search needs) sub-w
-    add-w returns-2 (λ c. search needs) (λ c. search needs) loop-again returns-3)
+    Inv-loop μ-loop
+    (λ c. (omega arith, refl))
+    (λ c. search needs) (λ c κs. search needs) returns
+    (λ c. omega (arith, c .before .before .before .before .loop .inv))
+    (λ c κs. search needs) sub-w add-w returns-2 (λ c. search needs) (λ c. search needs) loop-again
+    (λ c. ends _ _ (c .before .loop .i) (omega arith) ∙ c .before .loop .inv .1))

@@ -5,16 +5,12 @@ use borrow.Author.Needs.{needs}
 use Rattle.turnover_input.proofs.fields.field_at.Statement.{statement}
 use Rattle.turnover_input.proofs.fields.field_at.Tie as tie
 
-returns : tie.Need-returns
-returns c = item-end _ (c .before .before .args .at) (c .if1 .taken)
-
-returns-2 : tie.Need-returns-2
-returns-2 c = item-not _ (c .before .before .before .before .args .at) (omega arith) (c .if2 .taken)
-
-returns-3 : tie.Need-returns-3
-returns-3 c = c .number-at .ensures ∙ item-on _ (c .before .before .before .before .before .args .at) (omega arith) (c .before .if2 .left)
-
 pub field-at-spec : {M : Type 1} → statement M
 field-at-spec =
     tie.close
-    (tie.spec returns (λ c. search needs) returns-2 (λ c. search needs) (λ c κs. search needs) returns-3)
+    (tie.spec
+    (λ c. item-end _ (c .before .before .args .at) (c .if1 .taken))
+    (λ c. search needs)
+    (λ c. item-not _ (c .before .before .before .before .args .at) (omega arith) (c .if2 .taken))
+    (λ c. search needs) (λ c κs. search needs)
+    (λ c. c .number-at .ensures ∙ item-on _ (c .before .before .before .before .before .args .at) (omega arith) (c .before .if2 .left)))

@@ -7,15 +7,6 @@ use borrow.Author.Needs.{needs}
 use Rattle.turnover_input.proofs.fields.number_at.Statement.{statement}
 use Rattle.turnover_input.proofs.fields.number_at.Tie as tie
 
-returns : tie.Need-returns
-returns c = first-none _ (c .before .before .args .at) (c .if1 .taken)
-
-returns-2 : tie.Need-returns-2
-returns-2 c = first-bare _ (c .before .before .before .before .before .args .at) (omega arith) (sym (c .before .is-digit .ensures) ∙ not-true _ (c .if2 .taken))
-
-sub-digits : tie.Need-sub-digits
-sub-digits c = omega (arith, c .wide .ensures, digit-range _ (sym (c .before .before .is-digit .ensures) ∙ not-false _ (c .before .if2 .left)))
-
 returns-3 : tie.Need-returns-3
 returns-3 c =
     let d = sym (c .before .before .before .is-digit .ensures) ∙ not-false _ (c .before .before .if2 .left) in
@@ -25,5 +16,9 @@ pub number-at-spec : {M : Type 1} → statement M
 number-at-spec =
     tie.close
     (tie.spec
-    returns (λ c. search needs) (λ c κs. search needs) returns-2 (λ c. search needs)
-    (λ c κs. search needs) sub-digits (λ c κs. search needs) returns-3)
+    (λ c. first-none _ (c .before .before .args .at) (c .if1 .taken))
+    (λ c. search needs) (λ c κs. search needs)
+    (λ c. first-bare _ (c .before .before .before .before .before .args .at) (omega arith) (sym (c .before .is-digit .ensures) ∙ not-true _ (c .if2 .taken)))
+    (λ c. search needs) (λ c κs. search needs)
+    (λ c. omega (arith, c .wide .ensures, digit-range _ (sym (c .before .before .is-digit .ensures) ∙ not-false _ (c .before .if2 .left))))
+    (λ c κs. search needs) returns-3)

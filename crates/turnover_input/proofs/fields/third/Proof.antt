@@ -3,21 +3,12 @@ use borrow.Author.Needs.{needs}
 use Rattle.turnover_input.proofs.fields.third.Statement.{statement}
 use Rattle.turnover_input.proofs.fields.third.Tie as tie
 
-returns : tie.Need-returns
-returns c = rw (← c .before .before .field-at .ensures, c .enum-told .given .1)
-
-returns-2 : tie.Need-returns-2
-returns-2 c = rw (← c .before .before .field-at .ensures, c .enum-told2 .given .1)
-
-returns-3 : tie.Need-returns-3
-returns-3 c = rw (← c .before .before .before .before .field-at .ensures, c .before .before .f .given .1) (third-more _ _ _ _ _ (c .if1 .taken))
-
-returns-4 : tie.Need-returns-4
-returns-4 c = rw (← c .before .before .before .before .field-at .ensures, c .before .before .f .given .1) (third-last _ _ _ _ _ (c .if1 .left))
-
 pub third-spec : {M : Type 1} → statement M
 third-spec =
     tie.close
     (tie.spec
-    (λ c κs. search needs) (λ c. search needs) (λ c. search needs) (λ c. search needs) returns
-    returns-2 returns-3 returns-4)
+    (λ c κs. search needs) (λ c. search needs) (λ c. search needs) (λ c. search needs)
+    (λ c. rw (← c .before .before .field-at .ensures, c .enum-told .given .1))
+    (λ c. rw (← c .before .before .field-at .ensures, c .enum-told2 .given .1))
+    (λ c. rw (← c .before .before .before .before .field-at .ensures, c .before .before .f .given .1) (third-more _ _ _ _ _ (c .if1 .taken)))
+    (λ c. rw (← c .before .before .before .before .field-at .ensures, c .before .before .f .given .1) (third-last _ _ _ _ _ (c .if1 .left))))

@@ -4,11 +4,10 @@ use borrow.Author.Needs.{needs}
 use Rattle.turnover_input.proofs.lines.keep.Statement.{statement}
 use Rattle.turnover_input.proofs.lines.keep.Tie as tie
 
-returns : tie.Need-returns
-returns c = let a = c .before .args in (omega arith, λ t k. kept-more (a .line .now) t (a .have) (a .b) (omega arith) (omega arith) k)
-
-returns-2 : tie.Need-returns-2
-returns-2 c = let a = c .before .args in (omega arith, λ t k. kept-full (a .line .now) t (a .have) (a .b) (omega arith) (omega arith) k)
-
 pub keep-spec : {M : Type 1} → statement M
-keep-spec = tie.close (tie.spec (λ c. search needs) (λ c. search needs) (λ c. search needs) returns returns-2)
+keep-spec =
+    tie.close
+    (tie.spec
+    (λ c. search needs) (λ c. search needs) (λ c. search needs)
+    (λ c. let a = c .before .args in (omega arith, λ t k. kept-more (a .line .now) t (a .have) (a .b) (omega arith) (omega arith) k))
+    (λ c. let a = c .before .args in (omega arith, λ t k. kept-full (a .line .now) t (a .have) (a .b) (omega arith) (omega arith) k)))

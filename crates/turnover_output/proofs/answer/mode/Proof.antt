@@ -1,21 +1,21 @@
 use native.Mathlib.Omega.{arith}
-use Rattle.turnover_output.proofs.WrittenLaws.{written-more}
-use Rattle.turnover_output.specs.Answer.{modeText}
 use borrow.Author.Needs.{needs}
+use Rattle.turnover_output.proofs.TextAtLaws.{text-more}
+use Rattle.turnover_output.specs.Answer.{modeText}
 use Rattle.turnover_output.proofs.answer.mode.Statement.{statement}
 use Rattle.turnover_output.proofs.answer.mode.Tie as tie
 
 returns : tie.Need-returns
 unfolding modeText
 returns c =
-    let z = c .before .before .before .before .before .before .before .before .before .before .before .before .before .before .before .before .before .before .before .before .pre in
-    let a = c .before .before .before .before .before .before .before .before .before .before .before .before .before .before .before .before .opening .ensures in
-    let b = c .before .before .before .before .before .before .before .before .before .before .before .word .ensures in
-    let d = c .before .before .before .before .before .before .before .mode-word .ensures in
+    let m = c .before .before .before .before .before .before .before in
+    let w = m .before .before .before .before in
+    let o = w .before .before .before .before .before in
+    let a = o .opening .ensures in
+    let b = w .word .ensures in
+    let d = m .mode-word .ensures in
     let e = c .before .before .word2 .ensures in
-    let p = written-more (a .0) b (omega (arith, a .1)) in
-    let q = written-more p (d .0) (omega (arith, a .1, b .next)) in
-    (written-more q e (omega (arith, a .1, b .next, d .1)), omega (arith, a .1, b .next, d .1, e .next))
+    (text-more (text-more (text-more (a .0) b) (d .0)) e, omega (arith, a .1, b .next, d .1, e .next))
 
 pub mode-spec : {M : Type 1} → statement M
 mode-spec =

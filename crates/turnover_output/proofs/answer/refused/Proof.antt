@@ -1,40 +1,49 @@
+use Prim.Native.Nat.{_≤_}
+use lib.ListN.{length}
 use native.Mathlib.Omega.{arith}
-use Rattle.turnover_output.proofs.WrittenLaws.{written-more}
-use Rattle.turnover_output.specs.Answer.{refusedText}
-use Rattle.turnover_output.proofs.AnswerLaws.{length64, length8}
 use borrow.Author.Needs.{needs}
+use Rattle.decimal.specs.Decimal.{decimal}
+use Rattle.turnover_output.proofs.TextAtLaws.{text-more}
+use Rattle.turnover_output.proofs.AnswerLaws.{length64, length8}
+use Rattle.turnover_output.specs.Answer.{refusedText}
 use Rattle.turnover_output.proofs.answer.refused.Statement.{statement}
 use Rattle.turnover_output.proofs.answer.refused.Tie as tie
 
-number-requires : tie.Need-number-requires
-number-requires c κs = let s = c .before .before in omega (arith, length64 (s .args .number) (s .fits .number), length8 (s .args .refusal) (s .fits .refusal))
+digits : (s : tie.Start) → (length (decimal (s .args .number)) ≤ 20) × (length (decimal (s .args .refusal)) ≤ 3)
+digits s = (length64 _ (s .fits .number), length8 _ (s .fits .refusal))
 
-word-requires : tie.Need-word-requires
-word-requires c κs = let s = c .before .before .before .before .before .before .before in omega (arith, length64 (s .args .number) (s .fits .number), length8 (s .args .refusal) (s .fits .refusal))
+-- behind the number, the word and the refusal
+abbrev first : tie.After-number → tie.Start
+first c = c .before .before .before
 
-number-requires-2 : tie.Need-number-requires-2
-number-requires-2 c κs = let s = c .before .before .before .before .before .before .before .before .before .before .before in omega (arith, length64 (s .args .number) (s .fits .number), length8 (s .args .refusal) (s .fits .refusal))
+abbrev second : tie.After-word → tie.After-number
+second c = c .before .before .before .before .before
 
-word-requires-2 : tie.Need-word-requires-2
-word-requires-2 c κs = let s = c .before .before .before .before .before .before .before .before .before .before .before .before .before .before .before .before in omega (arith, length64 (s .args .number) (s .fits .number), length8 (s .args .refusal) (s .fits .refusal))
+abbrev third : tie.After-number2 → tie.After-word
+third c = c .before .before .before .before
 
 returns : tie.Need-returns
 unfolding refusedText
 returns c =
-    let s = c .before .before .before .before .before .before .before .before .before .before .before .before .before .before .before .before .before .before .before in
-    let a = c .before .before .before .before .before .before .before .before .before .before .before .before .before .before .before .before .number .ensures in
-    let b = c .before .before .before .before .before .before .before .before .before .before .before .word .ensures in
-    let d = c .before .before .before .before .before .before .before .number2 .ensures in
-    let e = c .before .before .word2 .ensures in
-    let h = length64 (s .args .number) (s .fits .number) in
-    let k = length8 (s .args .refusal) (s .fits .refusal) in
-    let p = written-more a b (omega (arith, a .next)) in
-    let q = written-more p d (omega (arith, a .next, b .next)) in
-    (written-more q e (omega (arith, a .next, b .next, d .next)), omega (arith, a .next, b .next, d .next, e .next))
+    let d = c .before .before .before .before .before .before .before in
+    let b = third d in
+    let a = second b in
+    let s = first a in
+    let x = a .number .ensures in
+    let y = b .word .ensures in
+    let z = d .number2 .ensures in
+    let l = c .before .before .word2 .ensures in
+    (text-more (text-more (text-more x y) z) l, omega (arith, digits s, x .next, y .next, z .next, l .next))
 
 pub refused-spec : {M : Type 1} → statement M
 refused-spec =
     tie.close
     (tie.spec
-    number-requires (λ c. search needs) word-requires number-requires-2 (λ c. search needs)
-    word-requires-2 (λ c. search needs) returns)
+    (λ c κs. omega (arith, digits (c .before .before)))
+    (λ c. search needs)
+    (λ c κs. omega (arith, digits (first (c .before .before .before .before))))
+    (λ c κs. omega (arith, digits (first (second (c .before .before .before)))))
+    (λ c. search needs)
+    (λ c κs. omega (arith, digits (first (second (third (c .before .before .before .before))))))
+    (λ c. search needs)
+    returns)
