@@ -6,6 +6,7 @@ use turnover_input::lines::Filled;
 ghost use mathlib.Core.Path.{_≡_};
 ghost use Prim.Native.Nat.{_<_, _≤_};
 ghost use lib.ListN.{length};
+ghost use Rattle.turnover_input.specs.Kept.{lineSize};
 
 // How much of a line is kept between reads, and whether more may come.
 struct Reading {
@@ -85,8 +86,8 @@ fn show(c: Command) {
 
 // What is kept after a fill: nothing, where the line is whole.
 fn settle(line: &[u8], f: Filled) -> usize
-    requires { ⌜ (f .have ≤ 32) × (length (now line) ≡ 32) ⌝ }
-    ensures { λ r. ⌜ r ≤ 32 ⌝ }
+    requires { ⌜ (f .have ≤ lineSize) × (length (now line) ≡ lineSize) ⌝ }
+    ensures { λ r. ⌜ r ≤ lineSize ⌝ }
 {
     let have = f.have;
     let whole = f.whole;
@@ -99,8 +100,8 @@ fn settle(line: &[u8], f: Filled) -> usize
 
 // The bytes of one read.
 fn feed(bytes: &[u8], line: &mut [u8], have: usize) -> usize
-    requires { ⌜ (have ≤ 32) × (length (now line) ≡ 32) ⌝ }
-    ensures { λ r. ⌜ r ≤ 32 ⌝ }
+    requires { ⌜ (have ≤ lineSize) × (length (now line) ≡ lineSize) ⌝ }
+    ensures { λ r. ⌜ r ≤ lineSize ⌝ }
 {
     let mut n = have;
     let mut at = 0;
@@ -114,8 +115,8 @@ fn feed(bytes: &[u8], line: &mut [u8], have: usize) -> usize
 
 // One read, of few bytes, so that most lines come in parts.
 fn turn(line: &mut [u8], have: usize) -> Reading
-    requires { ⌜ (have ≤ 32) × (length (now line) ≡ 32) ⌝ }
-    ensures { λ r. ⌜ r .have ≤ 32 ⌝ }
+    requires { ⌜ (have ≤ lineSize) × (length (now line) ≡ lineSize) ⌝ }
+    ensures { λ r. ⌜ r .have ≤ lineSize ⌝ }
 {
     let mut buf = [0u8; 7];
     let got = libc::read(STDIN_FILENO, &mut buf);
@@ -131,7 +132,7 @@ fn turn(line: &mut [u8], have: usize) -> Reading
 
 // Nothing says that the input ends, so the reads are counted down from a number that no run uses up.
 fn commands(line: &mut [u8])
-    requires { ⌜ length (now line) ≡ 32 ⌝ }
+    requires { ⌜ length (now line) ≡ lineSize ⌝ }
 {
     let mut s = Reading {
         have: 0,

@@ -12,14 +12,10 @@ Inv-loop bytes line₀ have n₀ at₀ line n at = (n ≤ 32) × (length line �
 abbrev μ-loop : tie.MeasureT-loop
 μ-loop bytes line₀ have n₀ at₀ line n at = length bytes - at
 
-loop-less : tie.Need-loop-less Inv-loop μ-loop
-loop-less c = let f = c .before .before .before .before .fill .ensures in omega (arith, f .inside, f .on (c .before .before .before .before .before .before .loop-test .taken))
-
 pub feed-spec : {M : Type 1} → statement M
 feed-spec =
     tie.close
     (tie.spec
-    Inv-loop
-    μ-loop
-    (λ c. search needs) (λ c κs. search needs) (λ c κs. search needs) loop-less (λ c. search needs)
-    (λ c. search needs) (λ c. search needs))
+    Inv-loop μ-loop (λ c. search needs) (λ c κs. search needs) (λ c κs. search needs)
+    (λ c. let f = c .before .before .before .before .fill .ensures in omega (arith, f .inside, f .on (c .before .before .before .before .before .before .loop-test .taken)))
+    (λ c. search needs) (λ c. search needs) (λ c. search needs))

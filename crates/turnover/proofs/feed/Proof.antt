@@ -24,24 +24,6 @@ loop-holds c =
     let p = c .before .before .before .before .before .pre in
     (p .1, p .2, refl, p .3, omega arith, p .0, p .4, ([], goes-none _ _ _ _))
 
-take-lines-requires : tie.Need-take-lines-requires Inv-loop μ-loop
-take-lines-requires c κs = let i = c .before .before .before .before .before .before .before .loop .inv in (i .5, i .0, omega (arith, i .4), omega arith, i .1, i .6)
-
-slice-aggregate-put : tie.Need-slice-aggregate-put Inv-loop μ-loop
-slice-aggregate-put c = let r = c .before .before .before .before .before .before .before .before .before .take-lines .ensures .1 .0 .room in simp length-take (omega (arith, c .before .before .before .before .before .before .before .before .before .before .before .before .before .before .before .before .before .loop .inv .3))
-
-same-length : tie.Need-same-length Inv-loop μ-loop
-same-length c = omega (arith, c .before .before .before .before .before .before .before .before .before .before .before .before .before .before .before .before .before .before .before .before .loop .inv .0, c .before .before .before .before .before .before .before .before .before .before .before .before .before .before .before .before .before .before .before .before .before .before .before .before .before .before .pre .1)
-
-same-length-2 : tie.Need-same-length-2 Inv-loop μ-loop
-same-length-2 c = omega (arith, c .before .before .before .before .before .before .before .before .before .before .before .before .before .before .before .before .before .before .before .before .loop .inv .1, c .before .before .before .before .before .before .before .before .before .before .before .before .before .before .before .before .before .before .before .before .before .before .before .before .before .before .pre .2)
-
-same-length-3 : tie.Need-same-length-3 Inv-loop μ-loop
-same-length-3 c = omega (arith, c .before .before .before .before .before .before .before .before .before .before .before .before .before .before .before .before .before .before .before .before .loop .inv .2)
-
-same-length-4 : tie.Need-same-length-4 Inv-loop μ-loop
-same-length-4 c = omega (arith, c .before .before .before .before .before .before .before .before .before .before .before .before .before .before .before .before .before .before .before .before .loop .inv .3, c .before .before .before .before .before .before .before .before .before .before .before .before .before .before .before .before .before .before .before .before .before .before .before .before .before .before .pre .3)
-
 returns : tie.Need-returns Inv-loop μ-loop
 returns c =
     let q = c .settled .ensures in
@@ -50,14 +32,17 @@ returns c =
 
 loop-less : tie.Need-loop-less Inv-loop μ-loop
 loop-less c =
-    let i = c .before .before .before .before .before .before .before .before .before .before .before .before .before .before .before .before .before .before .before .loop .inv in
-    let f = c .before .before .before .before .before .before .before .before .before .before .before .take-lines .ensures in
-    omega (arith, f .0 .inside, f .1 .0 .on (omega (arith, i .4, c .before .before .before .before .before .before .before .before .before .before .before .before .before .before .before .before .before .if1 .taken)) (omega (arith, i .3)))
+    let k = c .before .before .before .before .before .before .before .before .before .before .before in
+    let w = k .before .before .before .before .before .before in
+    let i = w .before .before .loop .inv in
+    let f = k .take-lines .ensures in
+    omega (arith, f .0 .inside, f .1 .0 .on (omega (arith, i .4, w .if1 .taken)) (omega (arith, i .3)))
 
 loop-again : tie.Need-loop-again Inv-loop μ-loop
 loop-again c =
-    let i = c .before .before .before .before .before .before .before .before .before .before .before .before .before .before .before .before .before .before .before .loop .inv in
-    let f = c .before .before .before .before .before .before .before .before .before .before .before .take-lines .ensures in
+    let k = c .before .before .before .before .before .before .before .before .before .before .before in
+    let i = k .before .before .before .before .before .before .before .before .loop .inv in
+    let f = k .take-lines .ensures in
     (omega (arith, i .0), omega (arith, i .1), omega (arith, i .2), omega (arith, i .3), f .0 .inside, f .0 .fits, f .1 .1, (_, goes-more (i .7 .1) (f .0 .goes)))
 
 returns-2 : tie.Need-returns-2 Inv-loop μ-loop
@@ -72,7 +57,14 @@ feed-spec =
     (tie.spec
     Inv-loop
     μ-loop
-    loop-holds take-lines-requires (λ c. search needs) slice-aggregate-put (λ c κs. search needs)
-    (λ c κs. search needs) same-length same-length-2 same-length-3 same-length-4 returns loop-less
-    loop-again (λ c κs. search needs) (λ c. search needs) (λ c. search needs) (λ c. search needs)
-    (λ c. search needs) returns-2)
+    loop-holds
+    (λ c κs. let i = c .before .before .before .before .before .before .before .loop .inv in (i .5, i .0, omega (arith, i .4), omega arith, i .1, i .6))
+    (λ c. search needs)
+    (λ c. let k = c .before .before .before .before .before .before .before .before .before in simp length-take (omega (arith, k .take-lines .ensures .1 .0 .room, k .before .before .before .before .before .before .before .before .loop .inv .3)))
+    (λ c κs. search needs) (λ c κs. search needs)
+    (λ c. let l = c .before .before .before .before .before .before .before .before .before .before .before .before .before .before .before .before .before .before .before .before in omega (arith, l .loop .inv .0, l .before .before .before .before .before .before .pre .1))
+    (λ c. let l = c .before .before .before .before .before .before .before .before .before .before .before .before .before .before .before .before .before .before .before .before in omega (arith, l .loop .inv .1, l .before .before .before .before .before .before .pre .2))
+    (λ c. omega (arith, c .before .before .before .before .before .before .before .before .before .before .before .before .before .before .before .before .before .before .before .before .loop .inv .2))
+    (λ c. let l = c .before .before .before .before .before .before .before .before .before .before .before .before .before .before .before .before .before .before .before .before in omega (arith, l .loop .inv .3, l .before .before .before .before .before .before .pre .3))
+    returns loop-less loop-again (λ c κs. search needs) (λ c. search needs) (λ c. search needs)
+    (λ c. search needs) (λ c. search needs) returns-2)

@@ -4,14 +4,12 @@ use borrow.Author.Needs.{needs}
 use Rattle.turnover.proofs.main.Statement.{statement}
 use Rattle.turnover.proofs.main.Tie as tie
 
-slice-aggregate-put : tie.Need-slice-aggregate-put
-slice-aggregate-put c = simp length-take (omega (arith, c .before .before .before .before .before .before .run .ensures .1))
-
 pub main-spec : {M : Type 1} → statement M
 main-spec =
     tie.close
     (tie.spec
     (λ c κs. search needs) (λ c κs. search needs) (λ c κs. search needs) (λ c κs. search needs)
     (λ c. search needs) (λ c. search needs) (λ c. search needs) (λ c. search needs)
-    (λ c. search needs) (λ c κs. search needs) (λ c. search needs) slice-aggregate-put
+    (λ c. search needs) (λ c κs. search needs) (λ c. search needs)
+    (λ c. simp length-take (omega (arith, c .before .before .before .before .before .before .run .ensures .1)))
     (λ c κs. search needs) (λ c. search needs))

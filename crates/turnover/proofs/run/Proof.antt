@@ -28,76 +28,56 @@ loop-holds c =
 
 turn-requires : tie.Need-turn-requires Inv-loop μ-loop
 turn-requires c κs =
-    let p = c .before .before .before .before .before .before .before .before .before .before .before .before .before .pre in
-    let i = c .before .before .before .before .before .before .loop .inv in
-    let n : length (now (c .before .before .before .before .before .before .before .before .before .before .before .before .before .args .block)) ≡ 512 = rw (p .1) (blank-length 512) in
+    let l = c .before .before .before .before .before .before in
+    let s = l .before .before .before .before .before .before .before in
+    let p = s .pre in
+    let i = l .loop .inv in
+    let n : length (now (s .args .block)) ≡ 512 = rw (p .1) (blank-length 512) in
     (i .0, omega (arith, p .0, i .2), omega (arith, i .3), omega (arith, p .3, i .5), i .6)
-
-same-length : tie.Need-same-length Inv-loop μ-loop
-same-length c = omega (arith, c .before .before .before .before .before .before .before .before .before .before .before .before .before .before .before .before .before .before .loop .inv .1)
-
-same-length-2 : tie.Need-same-length-2 Inv-loop μ-loop
-same-length-2 c = omega (arith, c .before .before .before .before .before .before .before .before .before .before .before .before .before .before .before .before .before .before .loop .inv .2)
-
-same-length-3 : tie.Need-same-length-3 Inv-loop μ-loop
-same-length-3 c = omega (arith, c .before .before .before .before .before .before .before .before .before .before .before .before .before .before .before .before .before .before .loop .inv .3)
-
-same-length-4 : tie.Need-same-length-4 Inv-loop μ-loop
-same-length-4 c = omega (arith, c .before .before .before .before .before .before .before .before .before .before .before .before .before .before .before .before .before .before .loop .inv .4)
-
-same-length-5 : tie.Need-same-length-5 Inv-loop μ-loop
-same-length-5 c = omega (arith, c .before .before .before .before .before .before .before .before .before .before .before .before .before .before .before .before .before .before .loop .inv .5)
-
-returns : tie.Need-returns Inv-loop μ-loop
-returns c = (λ e. absurd (true≢false (sym (c .if1 .taken) ∙ e)), omega arith)
 
 finish-requires : tie.Need-finish-requires Inv-loop μ-loop
 finish-requires c κs =
-    let p = c .before .before .before .before .before .before .before .before .before .before .before .before .before .before .before .before .before .before .before .before .before .before .before .before .before .before .before .before .before .before .before .pre in
-    let i = c .before .before .before .before .before .before .before .before .before .before .before .before .before .before .before .before .before .before .before .before .before .before .before .before .loop .inv in
-    let f = c .before .before .before .before .before .before .before .before .before .before .before .before .before .before .before .before .before .turn .ensures in
-    let n : length (now (c .before .before .before .before .before .before .before .before .before .before .before .before .before .before .before .before .before .before .before .before .before .before .before .before .before .before .before .before .before .before .before .args .block)) ≡ 512 = rw (p .1) (blank-length 512) in
+    let u = c .before .before .before .before .before .before .before .before .before .before .before .before .before .before .before .before .before in
+    let l = u .before .before .before .before .before .before .before in
+    let s = l .before .before .before .before .before .before .before in
+    let p = s .pre in
+    let i = l .loop .inv in
+    let f = u .turn .ensures in
+    let n : length (now (s .args .block)) ≡ 512 = rw (p .1) (blank-length 512) in
     (f .1 .0, omega (arith, p .0, i .2), omega (arith, p .3, i .5), omega (arith, i .3), f .1 .1)
-
-same-length-6 : tie.Need-same-length-6 Inv-loop μ-loop
-same-length-6 c = omega (arith, c .before .before .before .before .before .before .before .before .before .before .before .before .before .before .before .before .before .before .before .before .before .before .before .before .before .before .before .before .before .before .before .loop .inv .1)
-
-same-length-7 : tie.Need-same-length-7 Inv-loop μ-loop
-same-length-7 c = omega (arith, c .before .before .before .before .before .before .before .before .before .before .before .before .before .before .before .before .before .before .before .before .before .before .before .before .before .before .before .before .before .before .before .loop .inv .2)
-
-same-length-8 : tie.Need-same-length-8 Inv-loop μ-loop
-same-length-8 c = omega (arith, c .before .before .before .before .before .before .before .before .before .before .before .before .before .before .before .before .before .before .before .before .before .before .before .before .before .before .before .before .before .before .before .loop .inv .3)
-
-same-length-9 : tie.Need-same-length-9 Inv-loop μ-loop
-same-length-9 c = omega (arith, c .before .before .before .before .before .before .before .before .before .before .before .before .before .before .before .before .before .before .before .before .before .before .before .before .before .before .before .before .before .before .before .loop .inv .4)
-
-same-length-10 : tie.Need-same-length-10 Inv-loop μ-loop
-same-length-10 c = omega (arith, c .before .before .before .before .before .before .before .before .before .before .before .before .before .before .before .before .before .before .before .before .before .before .before .before .before .before .before .before .before .before .before .loop .inv .5)
 
 returns-2 : tie.Need-returns-2 Inv-loop μ-loop
 returns-2 c =
-    let i = c .before .before .before .before .before .before .before .before .before .before .before .before .before .before .before .before .before .before .before .before .before .before .before .before .before .before .before .before .before .before .before .loop .inv in
-    let f = c .before .before .before .before .before .before .before .before .before .before .before .before .before .before .before .before .before .before .before .before .before .before .before .before .turn .ensures in
-    let w = c .before .before .before .before .before .before .finish .ensures in
-    (λ e. all-printed (passes-more (i .7 .1) (f .0 (c .before .before .before .before .before .before .before .before .before .before .before .before .before .if1 .left) .1)) (w .0), omega (arith, w .1))
+    let o = c .before .before .before .before .before .before in
+    let e = o .before .before .before .before .before .before .before in
+    let u = e .before .before .before .before .before .before .before .before .before .before .before in
+    let w = o .finish .ensures in
+    (λ z. all-printed (passes-more (u .before .before .before .before .before .before .before .loop .inv .7 .1) (u .turn .ensures .0 (e .if1 .left) .1)) (w .0), omega (arith, w .1))
 
 loop-again : tie.Need-loop-again Inv-loop μ-loop
 loop-again c =
-    let i = c .before .before .before .before .before .before .before .before .before .before .before .before .before .before .before .before .before .before .before .loop .inv in
-    let f = c .before .before .before .before .before .before .before .before .before .before .before .before .turn .ensures in
+    let u = c .before .before .before .before .before .before .before .before .before .before .before .before in
+    let i = u .before .before .before .before .before .before .before .loop .inv in
+    let f = u .turn .ensures in
     (f .1 .0, omega (arith, i .1), omega (arith, i .2), omega (arith, i .3), omega (arith, i .4), omega (arith, i .5), f .1 .1, (_, passes-more (i .7 .1) (f .0 (c .before .if1 .left) .1)))
-
-returns-3 : tie.Need-returns-3 Inv-loop μ-loop
-returns-3 c = (λ e. absurd (true≢false e), omega arith)
 
 pub run-spec : {M : Type 1} → statement M
 run-spec =
     tie.close
     (tie.spec
-    Inv-loop
-    μ-loop
-    (λ c κs. search needs) loop-holds (λ c. search needs) turn-requires same-length same-length-2
-    same-length-3 same-length-4 same-length-5 returns finish-requires same-length-6 same-length-7
-    same-length-8 same-length-9 same-length-10 returns-2 (λ c. search needs) loop-again
-    (λ c. search needs) (λ c. search needs) (λ c. search needs) (λ c. search needs)
-    (λ c. search needs) returns-3)
+    Inv-loop μ-loop (λ c κs. search needs) loop-holds (λ c. search needs) turn-requires
+    (λ c. omega (arith, c .before .before .before .before .before .before .before .before .before .before .before .before .before .before .before .before .before .before .loop .inv .1))
+    (λ c. omega (arith, c .before .before .before .before .before .before .before .before .before .before .before .before .before .before .before .before .before .before .loop .inv .2))
+    (λ c. omega (arith, c .before .before .before .before .before .before .before .before .before .before .before .before .before .before .before .before .before .before .loop .inv .3))
+    (λ c. omega (arith, c .before .before .before .before .before .before .before .before .before .before .before .before .before .before .before .before .before .before .loop .inv .4))
+    (λ c. omega (arith, c .before .before .before .before .before .before .before .before .before .before .before .before .before .before .before .before .before .before .loop .inv .5))
+    (λ c. (λ e. absurd (true≢false (sym (c .if1 .taken) ∙ e)), omega arith))
+    finish-requires
+    (λ c. omega (arith, c .before .before .before .before .before .before .before .before .before .before .before .before .before .before .before .before .before .before .before .before .before .before .before .before .before .before .before .before .before .before .before .loop .inv .1))
+    (λ c. omega (arith, c .before .before .before .before .before .before .before .before .before .before .before .before .before .before .before .before .before .before .before .before .before .before .before .before .before .before .before .before .before .before .before .loop .inv .2))
+    (λ c. omega (arith, c .before .before .before .before .before .before .before .before .before .before .before .before .before .before .before .before .before .before .before .before .before .before .before .before .before .before .before .before .before .before .before .loop .inv .3))
+    (λ c. omega (arith, c .before .before .before .before .before .before .before .before .before .before .before .before .before .before .before .before .before .before .before .before .before .before .before .before .before .before .before .before .before .before .before .loop .inv .4))
+    (λ c. omega (arith, c .before .before .before .before .before .before .before .before .before .before .before .before .before .before .before .before .before .before .before .before .before .before .before .before .before .before .before .before .before .before .before .loop .inv .5))
+    returns-2 (λ c. search needs) loop-again (λ c. search needs) (λ c. search needs)
+    (λ c. search needs) (λ c. search needs) (λ c. search needs)
+    (λ c. (λ e. absurd (true≢false e), omega arith)))
