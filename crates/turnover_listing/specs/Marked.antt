@@ -1,20 +1,19 @@
--- The twelve cases that document 01 marks (M), shown of the definitions together: steps 3 to 10 are lines of what turnover prints for the listing's input.
--- The whole listing is `whole-listing` in Listing. Assumes nothing.
+-- The twelve cases that document 01 marks (M): steps 3 to 10 are lines of what turnover prints for the listing's input.
+-- They hold: `marked` in proofs/Marked. Assumes nothing.
 use Prim.Native.Nat.{ℕ}
-use mathlib.Core.Path.{_≡_, refl, ap, _∙_}
+use mathlib.Core.Path.{_≡_}
 use mathlib.Core.List.{List, [], _∷_, _++_}
 use lib.ListN.{getD, replicate}
-use Rattle.codec.specs.Every.{every}
-use Rattle.codec.specs.Check.{weighted, checkOf}
-use Rattle.clock.specs.Order.{sameCounts, noGreater, verdictOf}
+use Rattle.codec.specs.Check.{checkOf}
+use Rattle.clock.specs.Order.{verdictOf}
 use Rattle.clock.specs.declared.Verdict.the-variants.{Before, Unordered}
 use Rattle.decimal.specs.Ascii.{ascii}
-use Rattle.turnover_input.specs.Lines.{splitFrom, linesOf}
+use Rattle.turnover_input.specs.Lines.{linesOf}
 use Rattle.turnover_session.specs.Turnover.{turnover}
-use Rattle.turnover_listing.specs.Listing.{listingInput, listingOutput, whole-listing}
+use Rattle.turnover_listing.specs.Listing.{listingInput}
 
 -- line k of an output, from 1
-abbrev lineOf : List ℕ → ℕ → List ℕ
+abbrev pub lineOf : List ℕ → ℕ → List ℕ
 lineOf text k = getD ([] ∷ linesOf text) k []
 
 -- line k of what turnover prints for the listing's input
@@ -40,25 +39,3 @@ pub record Marked : Type 0 where
   -- check 1 for 510 zero bytes; 64,530 when only byte 509 is 255
   pub check-zeros : checkOf (replicate 510 0) ≡ 1
   pub check-last : checkOf (replicate 509 0 ++ (255 ∷ [])) ≡ 64530
-
--- the listing's output is what turnover prints, so that its lines are those of it
-of-listing : (k : ℕ) → output k ≡ lineOf listingOutput k
-of-listing k = ap (λ (x : List ℕ). lineOf x k) whole-listing
-
-pub marked : Marked
-unfolding splitFrom verdictOf sameCounts noGreater every checkOf weighted
-marked =
-    record {
-      step-3 = of-listing 3 ∙ refl;
-      step-4 = of-listing 4 ∙ refl;
-      step-5 = of-listing 5 ∙ refl;
-      step-6 = of-listing 6 ∙ refl;
-      step-7 = of-listing 7 ∙ refl;
-      step-8 = of-listing 8 ∙ refl;
-      step-9 = of-listing 9 ∙ refl;
-      step-10 = of-listing 10 ∙ refl;
-      before = refl;
-      unordered = refl;
-      check-zeros = refl;
-      check-last = refl;
-    }
