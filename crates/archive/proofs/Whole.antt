@@ -40,16 +40,16 @@ joined-same (suc n) f g h = rw (joined-same n f g (λ (i : ℕ) (b : i < n). h i
 
 -- ---- an archive of header fields, limits and n records
 -- the bytes of the records in block b: fifteen, or what is left of n
-unfoldable pub blockRecords : ℕ → (ℕ → List ℕ) → ℕ → List ℕ
-blockRecords n r b = joined (min 15 (n - b * 15)) (λ (k : ℕ). r (b * 15 + k))
+unfoldable pub recordsOfBlock : ℕ → (ℕ → List ℕ) → ℕ → List ℕ
+recordsOfBlock n r b = joined (min 15 (n - b * 15)) (λ (k : ℕ). r (b * 15 + k))
 
 -- the header's image, and behind it those of the entries blocks, numbered 1, 2, 3 ..
 unfoldable pub imageArchive : Header → List (List ℕ) → ℕ → (ℕ → List ℕ) → List ℕ
-imageArchive h m n r = imageHeader h m ++ joined ((n + 14) / 15) (λ (b : ℕ). imageEntries (b + 1) (blockRecords n r b))
+imageArchive h m n r = imageHeader h m ++ joined ((n + 14) / 15) (λ (b : ℕ). imageEntries (b + 1) (recordsOfBlock n r b))
 
 -- it reads the first n records alone
 pub image-same : (h : Header) (m : List (List ℕ)) (n : ℕ) (r q : ℕ → List ℕ) → ((k : ℕ) → k < n → r k ≡ q k) → imageArchive h m n r ≡ imageArchive h m n q
-unfolding imageArchive blockRecords
+unfolding imageArchive recordsOfBlock
 image-same h m n r q e =
     ap (λ (l : List ℕ). imageHeader h m ++ l)
     (joined-same ((n + 14) / 15) _ _ (λ (b : ℕ) (c : b < (n + 14) / 15).
@@ -117,8 +117,8 @@ module _ (a : List ℕ) (bytes : AreBytes a) (tested : archiveTest a ≡ true) w
           omega (arith, counted (omega arith), full a tested b h z)
 
   -- the records' bytes of a block are those of its records
-  pub block-records : (b : ℕ) → b < blocks a → blockRecords (records a) (recordAt a) b ≡ recordBytes (blockOf a b)
-  unfolding blockRecords recordBytes recordOf
+  pub block-records : (b : ℕ) → b < blocks a → recordsOfBlock (records a) (recordAt a) b ≡ recordBytes (blockOf a b)
+  unfolding recordsOfBlock recordBytes recordOf
   block-records b h =
       let l = blockOf a b in
       let c = well-made-count l (block-parts a tested b h .0) in

@@ -11,7 +11,7 @@ use Rattle.codec.specs.Check.{weighted, checkOf, sealed, sealOf}
 use Rattle.clock.specs.Range.{countsFit}
 use Rattle.record.specs.Record.{peerFits, recordFits, imageRecord, wellMadeRecord}
 use Rattle.record.specs.declared.Record.{Record}
-use Rattle.header.specs.Header.{rowFits, limitsFit, headerFits, tableAt, tableOf, headerBody, imageHeader, wellMadeHeader}
+use Rattle.header.specs.Header.{rowInRange, limitsInRange, headerFits, tableAt, tableOf, headerBody, imageHeader, wellMadeHeader}
 use Rattle.header.specs.declared.Header.{Header}
 use Rattle.entries.specs.Starts.{recordStarts, recordStart, recordsEnd}
 use Rattle.entries.specs.Entries.{recordOf, frontFits, bodyFits, wellMadeEntries, entriesBody, imageEntries}
@@ -119,7 +119,7 @@ pub record NameRules : Type 0 where
   pub station-alone : recordKnown (stations 2) bothWays (event 1 2 255 1 0 0) ≡ false
 
 pub worked : BlockRules × RecordRules × NameRules
-unfolding every total blank upto weighted checkOf sealed sealOf recordFits peerFits imageRecord wellMadeRecord rowFits limitsFit headerFits tableAt tableOf headerBody imageHeader wellMadeHeader recordStarts recordStart recordsEnd recordOf frontFits bodyFits wellMadeEntries entriesBody imageEntries countsFit hasLink peerKnown recordKnown blockOf blocks allKnown blockFits blocksFit archiveTest
+unfolding every total blank upto weighted checkOf sealed sealOf recordFits peerFits imageRecord wellMadeRecord rowInRange limitsInRange headerFits tableAt tableOf headerBody imageHeader wellMadeHeader recordStarts recordStart recordsEnd recordOf frontFits bodyFits wellMadeEntries entriesBody imageEntries countsFit hasLink peerKnown recordKnown blockOf blocks allKnown blockFits blocksFit archiveTest
 worked = (
   record {
     no-entries = refl;

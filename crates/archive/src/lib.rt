@@ -6,7 +6,7 @@ ghost use lib.Dec.{eqb, leb};
 ghost use lib.ListN.{length, getD};
 ghost use Rattle.codec.specs.Every.{every};
 ghost use Rattle.header.specs.Header.{parseHeader, tableAt};
-ghost use Rattle.entries.specs.Entries.{numberOf, recordOf};
+ghost use Rattle.entries.specs.Entries.{blockNumber, recordOf};
 ghost use Rattle.archive.specs.Archive.{blockFits, blocksFit, archiveTest, records as recordsOf, recordAt, countRecords, findRecord, foundRecord};
 ghost use Rattle.archive.specs.Sweep.{countAt, countsTest, Fronts, placeOf, frontTest, phaseTest, recordTest, Looked};
 
@@ -179,7 +179,7 @@ fn records_fit(known: &[u32; 256], block: &[u8], count: usize) -> bool
 
 fn number_of(block: &[u8]) -> usize
     requires { ⌜ length (now block) ≡ 512 ⌝ }
-    ensures { λ r. ⌜ r ≡ numberOf (now (block .entry)) ⌝ }
+    ensures { λ r. ⌜ r ≡ blockNumber (now (block .entry)) ⌝ }
 {
     codec::get32(block, 4) as usize
 }

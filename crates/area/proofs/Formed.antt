@@ -179,8 +179,8 @@ module _ (c : Config) (s : State vector) (v : Imaged c s) where
       )
 
 -- ---- well-formed states
-pub imaged : (c : Config) (s : State vector) → wellFormed c s ≡ true → Imaged c s
-imaged c s h =
+pub formed-imaged : (c : Config) (s : State vector) → wellFormed c s ≡ true → Imaged c s
+formed-imaged c s h =
     let f = formed-of c s h in
     let m = both (wellMade c) _ (f .accepted) .0 in
     record {
@@ -199,13 +199,13 @@ module _ (c : Config) (s : State vector) (h : wellFormed c s ≡ true) where
   made = both (wellMade c) _ (facts .accepted) .0
 
   same : configAt (image c s) ≡ c
-  same = config-back c s (imaged c s h)
+  same = config-back c s (formed-imaged c s h)
 
   station-passes : (i : ℕ) → i < 8 → stationTest c i (imageStation (stationAt s i)) ≡ true
   unfolding stationTest
   station-passes i l =
       join (stationBytesFit (imageStation (stationAt s i))) _ (station.image-bytes-fit (stationAt s i))
-      (rw (station.parse-image (stationAt s i) (imaged c s h .stations i l)) (facts .station i l))
+      (rw (station.parse-image (stationAt s i) (formed-imaged c s h .stations i l)) (facts .station i l))
 
   link-passes : (k : ℕ) → k < 64 → linkTest c (k / 8) (k % 8) (imageLink (linkNumber s k)) ≡ true
   link-passes k l = link.fits-test c made (k / 8) (k % 8) (linkNumber s k) (facts .link (k / 8) (k % 8) (omega arith) (omega arith))
@@ -224,7 +224,7 @@ module _ (c : Config) (s : State vector) (h : wellFormed c s ≡ true) where
 -- one image for each state: two well-formed states with the same image are the same
 pub image-determines : (c d : Config) (s t : State vector) → wellFormed c s ≡ true → wellFormed d t ≡ true → image c s ≡ image d t → (c ≡ d) × (s ≡ t)
 image-determines c d s t h g e =
-    (sym (config-back c s (imaged c s h)) ∙ ap configAt e ∙ config-back d t (imaged d t g), sym (state-back c s (imaged c s h)) ∙ ap stateAt e ∙ state-back d t (imaged d t g))
+    (sym (config-back c s (formed-imaged c s h)) ∙ ap configAt e ∙ config-back d t (formed-imaged d t g), sym (state-back c s (formed-imaged c s h)) ∙ ap stateAt e ∙ state-back d t (formed-imaged d t g))
 
 -- an area passes just when it is the image of a well-formed state
 pub test-exactly : (a : List ℕ) → AreBytes a → (test a ≡ true) ↔ ((c : Config) × (s : State vector) × (wellFormed c s ≡ true) × (a ≡ image c s))

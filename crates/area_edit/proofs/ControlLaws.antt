@@ -16,7 +16,7 @@ use Rattle.reset.proofs.Views.{link-first-past, link-put-all, link-put-all-far}
 use Rattle.link.specs.declared.Item.{Item as CodeItem}
 use Rattle.link.specs.Image.{Queue, itemOf as itemAs, itemView}
 use Rattle.reset_rules.specs.Turn.{putItems}
-use Rattle.reset_rules.specs.Slots.{itemOf}
+use Rattle.reset_rules.specs.Slots.{controlOf}
 use Rattle.area.specs.Layout.{image, linkBytes}
 use Rattle.area_edit.specs.Room.{Roomy}
 use Rattle.area_edit.proofs.PartLaws.{link-held}
@@ -79,14 +79,14 @@ none true q h = let z : _≡_ {A = ℕ} 0 1 = cc in absurd (omega arith)
 none false true h = let z : _≡_ {A = ℕ} 0 1 = cc in absurd (omega arith)
 
 -- numbers 2 and 3 are an item, that of the code's struct; others are none
-pub items-one : (k : ℕ) (x : CodeItem) → (eqb k 2 || eqb k 3) ≡ true → x .kind ≡ k → itemOf k ≡ itemView x ∷ []
+pub items-one : (k : ℕ) (x : CodeItem) → (eqb k 2 || eqb k 3) ≡ true → x .kind ≡ k → controlOf k ≡ itemView x ∷ []
 unfolding itemAs
 items-one k x h e = rw e (some (eqb k 2) (eqb k 3) _ h)
 
-pub items-some : (k : ℕ) → (eqb k 2 || eqb k 3) ≡ true → length (itemOf k) ≡ 1
+pub items-some : (k : ℕ) → (eqb k 2 || eqb k 3) ≡ true → length (controlOf k) ≡ 1
 items-some k h = ap length (some (eqb k 2) (eqb k 3) resetReq h)
 
-pub items-none : (k : ℕ) → (eqb k 2 || eqb k 3) ≡ false → itemOf k ≡ []
+pub items-none : (k : ℕ) → (eqb k 2 || eqb k 3) ≡ false → controlOf k ≡ []
 items-none k h = none (eqb k 2) (eqb k 3) h
 
 -- ---- room

@@ -8,7 +8,7 @@ ghost use Rattle.reset.specs.Clock.{vector};
 ghost use Rattle.reset.specs.State.{State, putLinked, putOnAll};
 ghost use Rattle.link.specs.Image.{mostItems, itemView};
 ghost use Rattle.reset_rules.specs.Turn.{putItems};
-ghost use Rattle.reset_rules.specs.Slots.{itemOf};
+ghost use Rattle.reset_rules.specs.Slots.{controlOf};
 ghost use Rattle.area.specs.Layout.{areaSize, image, linkBytes};
 ghost use Rattle.area_edit.specs.Room.{Roomy};
 use link::Item;
@@ -50,8 +50,8 @@ fn put_all(area: &mut [u8], limits: [[u8; 8]; 8], i: usize, x: Item)
 
 // A control item by its number on every link out of i; none for another number.
 fn put_control(area: &mut [u8], limits: [[u8; 8]; 8], i: usize, kind: u8)
-    requires { ⌜ (i < 8) × Roomy (now area) limits i (length (itemOf kind)) ⌝ }
-    ensures { λ _. ⌜ ((c : Config) (s : State vector) → c .limits ≡ limits → now (area .entry) ≡ image c s → now (area .exit) ≡ image c (putItems c s i (itemOf kind))) ⌝ }
+    requires { ⌜ (i < 8) × Roomy (now area) limits i (length (controlOf kind)) ⌝ }
+    ensures { λ _. ⌜ ((c : Config) (s : State vector) → c .limits ≡ limits → now (area .entry) ≡ image c s → now (area .exit) ≡ image c (putItems c s i (controlOf kind))) ⌝ }
 {
     if (kind == link::RESET_REQ) | (kind == link::RESET_DONE) {
         put_all(area, limits, i, control(kind));
@@ -60,8 +60,8 @@ fn put_control(area: &mut [u8], limits: [[u8; 8]; 8], i: usize, kind: u8)
 
 // Two control items, one after the other, on every link out of i.
 pub fn put_controls(area: &mut [u8], limits: [[u8; 8]; 8], i: usize, first: u8, second: u8)
-    requires { ⌜ (i < 8) × Roomy (now area) limits i (length (itemOf first ++ itemOf second)) ⌝ }
-    ensures { λ _. ⌜ ((c : Config) (s : State vector) → c .limits ≡ limits → now (area .entry) ≡ image c s → now (area .exit) ≡ image c (putItems c s i (itemOf first ++ itemOf second))) ⌝ }
+    requires { ⌜ (i < 8) × Roomy (now area) limits i (length (controlOf first ++ controlOf second)) ⌝ }
+    ensures { λ _. ⌜ ((c : Config) (s : State vector) → c .limits ≡ limits → now (area .entry) ≡ image c s → now (area .exit) ≡ image c (putItems c s i (controlOf first ++ controlOf second))) ⌝ }
 {
     put_control(area, limits, i, first);
     put_control(area, limits, i, second);

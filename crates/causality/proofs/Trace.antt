@@ -20,9 +20,9 @@ recordStation E x = entryAt E x .entry .station
 abbrev pub isOf : ℕ → ℕ → Accepted → Bool
 isOf i f x = eqb (x .entry .phase) f && eqb (x .entry .station) i
 
-abbrev pub numberOf : List Accepted → ℕ → ℕ → ℕ → ℕ
-numberOf E i f zero = 0
-numberOf E i f (suc y) = numberOf E i f y + cond (isOf i f (entryAt E y)) 1 0
+abbrev pub entriesBefore : List Accepted → ℕ → ℕ → ℕ → ℕ
+entriesBefore E i f zero = 0
+entriesBefore E i f (suc y) = entriesBefore E i f y + cond (isOf i f (entryAt E y)) 1 0
 
 abbrev pub lastOf : List Accepted → ℕ → ℕ → ℕ → List ℕ
 lastOf E i f zero = zeros

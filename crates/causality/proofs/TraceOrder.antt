@@ -17,7 +17,7 @@ use Rattle.reset.proofs.Views.{zeros-at}
 use Rattle.causality.specs.Plain.{Message}
 use Rattle.causality.specs.HappenedBefore.{Accepted, entryAt, phaseOf, timestampOf, GoesWith, HappenedBefore, same-station, sent-received, chain}
 use Rattle.causality.specs.Sound.{ReceivedAsSent, OrderedByTimestamp}
-use Rattle.causality.proofs.Trace.{recordStation, isOf, numberOf, lastOf, countsBefore, received, Trace}
+use Rattle.causality.proofs.Trace.{recordStation, isOf, entriesBefore, lastOf, countsBefore, received, Trace}
 use Rattle.causality.proofs.TraceLaws.{goes-one, by-follows, follows-station}
 use Rattle.causality.proofs.Order.{Chain, edge, join, Clocked, chain-rise, chain-exactly}
 use Rattle.reset.proofs.Cases.{by-test, by-dec, clash}
@@ -120,7 +120,7 @@ module _ (E : List Accepted) (T : List (List Message)) (R : Trace E T) where
       (λ e. let z = last-found i f m k (rw e at h) in (z .0, let a = z .1 in omega arith, z .2, z .3, rw e (z .4)))
 
   -- its own count is their number
-  last-own : (i f m : ℕ) → m ≤ length E → getD (lastOf E i f m) i 0 ≡ numberOf E i f m
+  last-own : (i f m : ℕ) → m ≤ length E → getD (lastOf E i f m) i 0 ≡ entriesBefore E i f m
   last-own i f zero l = zeros-at i
   last-own i f (suc m) l =
       let r = last-own i f m (omega arith) in
@@ -131,7 +131,7 @@ module _ (E : List Accepted) (T : List (List Message)) (R : Trace E T) where
       (λ e. rw e (omega arith))
 
   -- the own counts of a station in a phase are 1, 2, 3 .., each once, in list order
-  pub own-counts : (y : ℕ) → y < length E → vc E y (recordStation E y) ≡ suc (numberOf E (recordStation E y) (phaseOf E y) y)
+  pub own-counts : (y : ℕ) → y < length E → vc E y (recordStation E y) ≡ suc (entriesBefore E (recordStation E y) (phaseOf E y) y)
   own-counts y yl = omega (arith, own-rises y yl, last-own (recordStation E y) (phaseOf E y) y (omega arith))
 
   -- ---- what goes with a receipt

@@ -10,7 +10,7 @@ use lib.Seq.{ext-getD}
 use Rattle.codec.specs.Every.{every}
 use Rattle.codec.proofs.FlagLaws.{false-of}
 use Rattle.clock.specs.Timestamp.{Less}
-use Rattle.clock.specs.Order.{sameCounts, noGreater, verdictOf, Says, byFlags, mirror}
+use Rattle.clock.specs.Order.{sameCounts, noGreater, verdictOf, Related, byFlags, mirror}
 use Rattle.clock.specs.declared.Verdict.{Verdict}
 use Rattle.clock.specs.declared.Verdict.the-variants.{Before, After, Same, Unordered}
 use Rattle.clock.proofs.CompareLaws.{verdict-flags, no-greater}
@@ -53,10 +53,10 @@ module _ (v w : List ℕ) (even : length v ≡ length w) (short : length w ≤ 8
   ge = no-greater w v short
 
   -- the verdict says what holds
-  pub verdict-holds : Says (verdictOf v w) v w
+  pub verdict-holds : Related (verdictOf v w) v w
   verdict-holds = rw verdict-flags (go (noGreater w v) refl (noGreater v w) refl)
     where
-      go : (p : Bool) → noGreater w v ≡ p → (q : Bool) → noGreater v w ≡ q → Says (byFlags (not p) (not q)) v w
+      go : (p : Bool) → noGreater w v ≡ p → (q : Bool) → noGreater v w ≡ q → Related (byFlags (not p) (not q)) v w
       go true e true f = equal-counts v w even (le .0 f) (ge .0 e)
       go true e false f = (λ (q : w ≡ v). true≢false (sym (le .1 (same-least (sym q))) ∙ f), ge .0 e)
       go false e true f = (λ (q : v ≡ w). true≢false (sym (ge .1 (same-least (sym q))) ∙ e), le .0 f)
@@ -67,7 +67,7 @@ module _ (v w : List ℕ) (even : length v ≡ length w) (short : length w ≤ 8
       )
 
   -- what holds is the verdict
-  pub verdict-is : (x : Verdict) → Says x v w → verdictOf v w ≡ x
+  pub verdict-is : (x : Verdict) → Related x v w → verdictOf v w ≡ x
   verdict-is Before h =
       rw (verdict-flags, le .1 (h .1), false-of (noGreater w v) (λ (t : noGreater w v ≡ true). h .0 (equal-counts v w even (h .1) (ge .0 t))))
   verdict-is After h =
@@ -81,14 +81,14 @@ module _ (v w : List ℕ) (even : length v ≡ length w) (short : length w ≤ 8
       )
 
   -- a verdict is given exactly where what it says holds
-  pub verdict-exact : (x : Verdict) → (verdictOf v w ≡ x) ↔ Says x v w
+  pub verdict-exact : (x : Verdict) → (verdictOf v w ≡ x) ↔ Related x v w
   verdict-exact x = (λ (e : verdictOf v w ≡ x). rw e at verdict-holds, verdict-is x)
 
   pub verdict-unordered : (verdictOf v w ≡ Unordered) ↔ ((Less v w → ⊥) × (Less w v → ⊥) × (v ≡ w → ⊥))
   verdict-unordered = verdict-exact Unordered
 
   -- no two verdicts hold
-  pub one-verdict : (x y : Verdict) → Says x v w → Says y v w → x ≡ y
+  pub one-verdict : (x y : Verdict) → Related x v w → Related y v w → x ≡ y
   one-verdict x y h g = sym (verdict-is x h) ∙ verdict-is y g
 
 -- ---- document 01's marked cases

@@ -31,11 +31,11 @@ unfoldable pub verdictOf : List ℕ → List ℕ → Verdict
 verdictOf v w = cond (sameCounts v w) Same (cond (noGreater v w) Before (cond (noGreater w v) After Unordered))
 
 -- what a verdict on v and w says
-abbrev pub Says : Verdict → List ℕ → List ℕ → Type 0
-Says Before v w = Less v w
-Says After v w = Less w v
-Says Same v w = v ≡ w
-Says Unordered v w = (Less v w → ⊥) × (Less w v → ⊥) × (v ≡ w → ⊥)
+abbrev pub Related : Verdict → List ℕ → List ℕ → Type 0
+Related Before v w = Less v w
+Related After v w = Less w v
+Related Same v w = v ≡ w
+Related Unordered v w = (Less v w → ⊥) × (Less w v → ⊥) × (v ≡ w → ⊥)
 
 -- the verdict by two flags: some count of the first is less; some is greater
 abbrev pub byFlags : Bool → Bool → Verdict

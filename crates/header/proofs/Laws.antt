@@ -22,7 +22,7 @@ use Rattle.codec.proofs.Fronts.{front-part, front-nums, front-num, front-byte, 
 use Rattle.codec.proofs.Has.{Has, has-last, has-more, has-num, has-nums, has-part, has-at}
 use Rattle.codec.proofs.OneByte.{one-byte}
 use Rattle.codec.proofs.CheckLaws.{seal-length, seal-seals, sealed-is}
-use Rattle.header.specs.Header.{rowFits, limitsFit, headerFits, bytesAt, tableAt, tableOf, parseHeader, headerBody, imageHeader, wellMadeHeader}
+use Rattle.header.specs.Header.{rowInRange, limitsInRange, headerFits, bytesAt, tableAt, tableOf, parseHeader, headerBody, imageHeader, wellMadeHeader}
 use Rattle.header.specs.declared.Header.{Header}
 
 pub table-length : (m : List (List ℕ)) → length (tableOf m) ≡ 64
@@ -103,8 +103,8 @@ table-row (suc n) l at zero h = refl
 table-row (suc n) l at (suc i) h = table-row n l (at + 8) i (omega arith)
 
 -- the limits of a table in bytes, byte by byte
-pub limits-bytes : (l : List ℕ) (at : ℕ) → limitsFit (tableAt 8 l at) ≡ every 64 (λ (k : ℕ). leb (getD l (at + k) 0) 32)
-unfolding limitsFit rowFits
+pub limits-bytes : (l : List ℕ) (at : ℕ) → limitsInRange (tableAt 8 l at) ≡ every 64 (λ (k : ℕ). leb (getD l (at + k) 0) 32)
+unfolding limitsInRange rowInRange
 limits-bytes l at =
     every-same 8 _ _ (λ (i : ℕ) (h : i < 8). every-same 8 _ _ (λ (j : ℕ) (g : j < 8). ap (λ (x : ℕ). leb x 32) (table-at 8 l at i j h g)))
     ∙ sym (every-rows 8 8 (λ (k : ℕ). leb (getD l (at + k) 0) 32))

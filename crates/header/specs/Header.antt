@@ -15,15 +15,15 @@ use Rattle.header.specs.declared.HeaderRead.{HeaderRead}
 
 -- ---- ranges
 -- a row of limits, each at most 32
-unfoldable pub rowFits : List ℕ → Bool
-rowFits r = every 8 (λ (j : ℕ). leb (getD r j 0) 32)
+unfoldable pub rowInRange : List ℕ → Bool
+rowInRange r = every 8 (λ (j : ℕ). leb (getD r j 0) 32)
 
-unfoldable pub limitsFit : List (List ℕ) → Bool
-limitsFit m = every 8 (λ (i : ℕ). rowFits (getD m i []))
+unfoldable pub limitsInRange : List (List ℕ) → Bool
+limitsInRange m = every 8 (λ (i : ℕ). rowInRange (getD m i []))
 
 -- n from 1 to 8, t from 1, every limit at most 32; the types bound t and the allowances by 65,535
 unfoldable pub headerFits : Header → List (List ℕ) → Bool
-headerFits h m = leb 1 (h .n) && (leb (h .n) 8 && (leb 1 (h .t) && limitsFit m))
+headerFits h m = leb 1 (h .n) && (leb (h .n) 8 && (leb 1 (h .t) && limitsInRange m))
 
 -- ---- the block
 -- n bytes from `at` on

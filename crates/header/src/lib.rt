@@ -5,7 +5,7 @@ ghost use Prim.Native.Nat.{_≤_, _+_};
 ghost use lib.ListN.{length, take, drop};
 ghost use Rattle.codec.specs.Every.{allZero};
 ghost use Rattle.codec.specs.Splice.{splice};
-ghost use Rattle.header.specs.Header.{rowFits, limitsFit, headerFits, bytesAt, tableAt, tableOf, parseHeader, wellMadeHeader, imageHeader, writeHeader, readHeader, readLimits};
+ghost use Rattle.header.specs.Header.{rowInRange, limitsInRange, headerFits, bytesAt, tableAt, tableOf, parseHeader, wellMadeHeader, imageHeader, writeHeader, readHeader, readLimits};
 
 // The fields of a header but for the limits, which stand beside it as an array of arrays.
 pub struct Header {
@@ -21,7 +21,7 @@ pub struct HeaderRead {
 }
 
 fn row_fits(row: [u8; 8]) -> bool
-    ensures { λ r. ⌜ r ≡ rowFits row ⌝ }
+    ensures { λ r. ⌜ r ≡ rowInRange row ⌝ }
 {
     (row[0] <= 32)
         & (row[1] <= 32)
@@ -35,7 +35,7 @@ fn row_fits(row: [u8; 8]) -> bool
 
 // Every limit is at most 32.
 fn limits_fit(limits: [[u8; 8]; 8]) -> bool
-    ensures { λ r. ⌜ r ≡ limitsFit limits ⌝ }
+    ensures { λ r. ⌜ r ≡ limitsInRange limits ⌝ }
 {
     let mut i = 0;
     while i < 8 {
@@ -117,7 +117,7 @@ pub fn load(s: &[u8]) -> Header
 // Every limit of a header block is at most 32. No early exit, so that the loop is vectorised.
 fn limits_small(s: &[u8]) -> bool
     requires { ⌜ length (now s) ≡ 512 ⌝ }
-    ensures { λ r. ⌜ r ≡ limitsFit (tableAt 8 (now (s .entry)) 32) ⌝ }
+    ensures { λ r. ⌜ r ≡ limitsInRange (tableAt 8 (now (s .entry)) 32) ⌝ }
 {
     let mut ok = true;
     let mut i = 0;

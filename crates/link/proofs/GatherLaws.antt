@@ -17,7 +17,7 @@ use Rattle.clock.specs.Range.{ceilingOf, countsFit as fit}
 use Rattle.clock.proofs.MergeLaws.{merged-at}
 use Rattle.reset.proofs.Views.{all-same}
 use Rattle.reset.specs.Config.{isStation}
-use Rattle.reset.specs.WellFormed.{countsFit}
+use Rattle.reset.specs.WellFormed.{timestampFits}
 use Rattle.link.specs.Image.{itemTest, sized}
 
 leb-max : (a b m : ℕ) → leb (max a b) m ≡ (leb a m && leb b m)
@@ -42,7 +42,7 @@ module _ (n t : ℕ) where
   -- the test of a place, by its kind
   module _ (l : List ℕ) where
     pub message-test : getD l 0 0 ≡ 1 → itemTest (sized n t) l ≡ fit n t (numsAt 2 8 l 5)
-    unfolding itemTest countsFit isStation fit
+    unfolding itemTest timestampFits isStation fit
     message-test e = rw (eq-eqb _ 1 e)
 
     pub control-test : (getD l 0 0 ≡ 1 → ⊥) → itemTest (sized n t) l ≡ ((eqb (getD l 0 0) 2 || eqb (getD l 0 0) 3) && allZero (drop 1 l))

@@ -25,7 +25,7 @@ use Rattle.reset.specs.Config.{Config, isStation, neighbours, places, wellMade}
 use Rattle.reset.proofs.ConfigLaws.{shape, linked-small}
 use Rattle.reset.specs.Clock.{vector}
 use Rattle.reset.specs.State.{Item, message, resetReq, resetDone}
-use Rattle.reset.specs.WellFormed.{countFits, countsFit, itemFits, itemFitsAt, linkFits}
+use Rattle.reset.specs.WellFormed.{countFits, timestampFits, itemFits, itemFitsAt, linkFits}
 use Rattle.link.specs.Image.{Queue, itemOf, imageItem, parseItem, itemTest, imageLink, placeAt, itemAt, parseLink, itemTestAt, itemsTest, queueTest, linkTest, sized, RangedItem, RangedLink}
 
 -- ---- an item
@@ -37,7 +37,7 @@ item-length resetDone = omega (arith, blank-length 20)
 
 -- bytes that pass the test, by their kind
 data Passed (c : Config) (l : List ℕ) : Type 0 where
-  a-message : getD l 0 0 ≡ 1 → countsFit c (c .t) (numsAt 2 8 l 5) ≡ true → Passed c l
+  a-message : getD l 0 0 ≡ 1 → timestampFits c (c .t) (numsAt 2 8 l 5) ≡ true → Passed c l
   a-req : getD l 0 0 ≡ 2 → allZero (drop 1 l) ≡ true → Passed c l
   a-done : getD l 0 0 ≡ 3 → allZero (drop 1 l) ≡ true → Passed c l
 
@@ -46,7 +46,7 @@ unfolding itemTest
 passed c l h = go (eqb (getD l 0 0) 1) refl (eqb (getD l 0 0) 2) refl (eqb (getD l 0 0) 3) refl h
   where
     go : (p : Bool) → eqb (getD l 0 0) 1 ≡ p → (q : Bool) → eqb (getD l 0 0) 2 ≡ q → (r : Bool) → eqb (getD l 0 0) 3 ≡ r
-        → cond p (countsFit c (c .t) (numsAt 2 8 l 5)) ((q || r) && allZero (drop 1 l)) ≡ true → Passed c l
+        → cond p (timestampFits c (c .t) (numsAt 2 8 l 5)) ((q || r) && allZero (drop 1 l)) ≡ true → Passed c l
     go true e q f r g h = a-message (eqb-true _ _ e) h
     go false e true f r g h = a-req (eqb-true _ _ f) h
     go false e false f true g h = a-done (eqb-true _ _ g) h
@@ -141,7 +141,7 @@ item-fits c l b h = go (passed c l h)
 pub item-passes : (c : Config) (x : Item vector) → RangedItem x → itemFits c x ≡ true → itemTest c (imageItem x) ≡ true
 unfolding itemTest
 item-passes c (message v g) r h =
-    rw (message-counts v g r) (unfold imageItem in both (countsFit c (c .t) v) _ h .0)
+    rw (message-counts v g r) (unfold imageItem in both (timestampFits c (c .t) v) _ h .0)
 item-passes c resetReq r h = unfold imageItem in zeros-blank 20
 item-passes c resetDone r h = unfold imageItem in zeros-blank 20
 
@@ -236,7 +236,7 @@ parse-item l k h = upto-at (getD l 0 0) (itemAt l) k resetReq h
 -- the items, of a configuration by n and t alone, and the zeros behind them
 pub link-parts : (c : Config) (i j m : ℕ) (l : List ℕ) → m ≡ places c i j
     → linkTest c i j l ≡ (itemsTest m (sized (c .n) (c .t)) l && allZero (drop (1 + getD l 0 0 * 21) l))
-unfolding linkTest queueTest itemsTest itemTest countsFit isStation
+unfolding linkTest queueTest itemsTest itemTest timestampFits isStation
 link-parts c i j m l e = rw e (and-assoc (leb (getD l 0 0) (places c i j)) (every (getD l 0 0) (itemTestAt c l)) (allZero (drop (1 + getD l 0 0 * 21) l)))
   where
     and-assoc : (a b d : Bool) → (a && (b && d)) ≡ (a && b && d)
@@ -327,8 +327,8 @@ module _ (c : Config) (i j : ℕ) (l : List ℕ) (b : AreBytes l) (w : linkTest 
       (every-of (getD l 0 0) (itemFitsAt c (parseLink l)) (queue-fits (places c i j) c l opened b)))
 
 -- ---- what is in range passes
-counts-ranged : (c : Config) → wellMade c ≡ true → (v : List ℕ) → countsFit c (c .t) v ≡ true → (length v ≡ 8) × ((k : ℕ) → getD v k 0 < 65536)
-unfolding countsFit
+counts-ranged : (c : Config) → wellMade c ≡ true → (v : List ℕ) → timestampFits c (c .t) v ≡ true → (length v ≡ 8) × ((k : ℕ) → getD v k 0 < 65536)
+unfolding timestampFits
 counts-ranged c h v f =
     let p = both (eqb (length v) 8) _ f in
     (eqb-true _ _ (p .0), λ (k : ℕ). go k (eqb-true _ _ (p .0)) (p .1) (decLt k 8))
@@ -343,7 +343,7 @@ counts-ranged c h v f =
 
 item-in-range : (c : Config) → wellMade c ≡ true → (x : Item vector) → itemFits c x ≡ true → RangedItem x
 item-in-range c h (message v g) f =
-    let p = both (countsFit c (c .t) v) _ f in
+    let p = both (timestampFits c (c .t) v) _ f in
     let r = counts-ranged c h v (p .0) in
     (r .0, r .1, omega (arith, leb-true g 4294967295 (p .1)))
 item-in-range c h resetReq f = tt

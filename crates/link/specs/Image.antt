@@ -11,7 +11,7 @@ use Rattle.codec.specs.Every.{blank, every, allZero}
 use Rattle.reset.specs.Config.{Config, places}
 use Rattle.reset.specs.Clock.{vector}
 use Rattle.reset.specs.State.{Item, message, resetReq, resetDone}
-use Rattle.reset.specs.WellFormed.{countsFit}
+use Rattle.reset.specs.WellFormed.{timestampFits}
 use Rattle.link.specs.declared.Item as declared
 
 -- ---- sizes in bytes: of an item, of all places of a link, and of a link, whose first byte is the count of its items
@@ -50,7 +50,7 @@ parseItem l = itemOf (getD l 0 0) (numAt 4 l 1) (numsAt 2 8 l 5)
 unfoldable pub itemTest : Config → List ℕ → Bool
 itemTest c l =
     cond (eqb (getD l 0 0) 1)
-    (countsFit c (c .t) (numsAt 2 8 l 5))
+    (timestampFits c (c .t) (numsAt 2 8 l 5))
     ((eqb (getD l 0 0) 2 || eqb (getD l 0 0) 3) && allZero (drop 1 l))
 
 -- ---- a queue

@@ -18,7 +18,7 @@ use Rattle.concurrent.specs.declared.Listed.{Listed}
 use Rattle.concurrent.specs.declared.Listed.the-variants.{Count, Refused as NoList}
 use Rattle.concurrent.proofs.Below.{count-most}
 use Rattle.melontime.specs.Numbers.{greatest, countedNumber, listedNumber}
-use Rattle.melontime.specs.Archives.{Listing}
+use Rattle.melontime.specs.Archives.{Lists}
 
 -- at most 15 records to a block
 pub records-most : (a : List ℕ) → archiveTest a ≡ true → records a * 512 ≤ length a * 15
@@ -69,5 +69,5 @@ unfolding foundRecord
 found-is a k e = rw (eq-eqb _ 0 e)
 
 -- ---- an unordered list
-pub listing : {a : List ℕ} {k : ℕ} {before after : List ℕ} {q : Listed} {r : ℕ} → UnorderedList a k before after q → r ≡ listedNumber q → Listing a k before after r
+pub listing : {a : List ℕ} {k : ℕ} {before after : List ℕ} {q : Listed} {r : ℕ} → UnorderedList a k before after q → r ≡ listedNumber q → Lists a k before after r
 listing u e = record { number = e ∙ ap (λ (x : Listed). listedNumber x) (u .answers); leaves = rw (u .answers) at (u .leaves) }

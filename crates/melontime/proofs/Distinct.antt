@@ -14,7 +14,7 @@ use Rattle.verdict.specs.declared.Compared.{Compared}
 use Rattle.verdict.specs.declared.Compared.the-variants.{Ordered, Refused}
 use Rattle.entries.specs.declared.EntriesRead.{EntriesRead}
 use Rattle.entries.specs.declared.EntriesRead.the-variants.{Block, Refused as NoBlock}
-use Rattle.entries.specs.Entries.{countOf, numberOf, wellMadeEntries, readEntries}
+use Rattle.entries.specs.Entries.{countOf, blockNumber, wellMadeEntries, readEntries}
 use Rattle.entries.proofs.Laws.{well-made-count}
 use Rattle.archive.specs.Archive.{archiveTest, records, countRecords}
 use Rattle.archive.specs.declared.Counted.{Counted}
@@ -161,9 +161,9 @@ block-back : (a : List ℕ) → Back blockNumber blockAt (readEntries a)
 unfolding readEntries
 block-back a = go (wellMadeEntries a) refl
   where
-    go : (t : Bool) → wellMadeEntries a ≡ t → Back blockNumber blockAt (cond t (Block (numberOf a) (countOf a)) (NoBlock 1))
+    go : (t : Bool) → wellMadeEntries a ≡ t → Back blockNumber blockAt (cond t (Block (blockNumber a) (countOf a)) (NoBlock 1))
     go true h =
-        let n : ℕ = numberOf a in
+        let n : ℕ = blockNumber a in
         let k : ℕ = countOf a in
         let z : k ≤ 15 = well-made-count a h .1 in
         let f : (counts * n + k) / counts ≡ n = omega arith in

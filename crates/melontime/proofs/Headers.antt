@@ -18,7 +18,7 @@ use Rattle.codec.proofs.SpliceLaws.{first, next}
 use Rattle.header.specs.Header.{headerFits, tableAt, tableOf, parseHeader, imageHeader, writeHeader}
 use Rattle.header.specs.declared.Header.{Header}
 use Rattle.header.proofs.Laws.{Typed, Table, table-forth, table-rows, table-row, image-length, parse-image, table-image, image-accepted}
-use Rattle.melontime.specs.Headers.{fieldsFit, headerOf, headerWritten, fieldBytes, headerFields}
+use Rattle.melontime.specs.Headers.{fieldsFit, headerGiven, headerWritten, fieldBytes, headerFields}
 
 -- fields that fit, part by part
 pub fit-parts : (n t : ℕ) (x m : List ℕ) → fieldsFit n t x m ≡ true → (length x ≡ 16) × (length m ≡ 64) × (n ≤ 255) × (t ≤ 65535)
@@ -54,7 +54,7 @@ fields-put l d d1 d2 d3 b n s e f g =
 
 -- ---- what is written is read back
 module _ (n t : ℕ) (x m : List ℕ) (bytes : AreBytes x) (fit : fieldsFit n t x m ≡ true) where
-  typed : Typed (headerOf n t x)
+  typed : Typed (headerGiven n t x)
   typed =
       let p = fit-parts n t x m fit in
       record { n = omega arith; t = omega arith; eight = refl; allowances = nums-below 2 8 x 0 bytes }
@@ -62,7 +62,7 @@ module _ (n t : ℕ) (x m : List ℕ) (bytes : AreBytes x) (fit : fieldsFit n t 
   table : Table (tableAt 8 m 0)
   table = record { rows = table-rows 8 m 0; cells = λ (i : ℕ) (h : i < 8). table-row 8 m 0 i h }
 
-  bytes-given : fieldBytes (headerOf n t x) (tableAt 8 m 0) ≡ (n ∷ []) ++ bytesOf 2 t ++ x ++ m
+  bytes-given : fieldBytes (headerGiven n t x) (tableAt 8 m 0) ≡ (n ∷ []) ++ bytesOf 2 t ++ x ++ m
   unfolding fieldBytes
   bytes-given =
       let p = fit-parts n t x m fit in
@@ -70,11 +70,11 @@ module _ (n t : ℕ) (x m : List ℕ) (bytes : AreBytes x) (fit : fieldsFit n t 
       let b : tableOf (tableAt 8 m 0) ≡ m = table-forth m 0 (omega arith) ∙ take-all 64 m (omega arith) in
       ap (λ (v : List ℕ). (n ∷ []) ++ bytesOf 2 t ++ v ++ tableOf (tableAt 8 m 0)) a ∙ ap (λ (v : List ℕ). (n ∷ []) ++ bytesOf 2 t ++ x ++ v) b
 
-  image-fields : (e : List ℕ) → headerFits (headerOf n t x) (tableAt 8 m 0) ≡ true → 83 ≤ length e
-      → headerFields (imageHeader (headerOf n t x) (tableAt 8 m 0)) e ≡ wrote (splice e 0 ((n ∷ []) ++ bytesOf 2 t ++ x ++ m))
+  image-fields : (e : List ℕ) → headerFits (headerGiven n t x) (tableAt 8 m 0) ≡ true → 83 ≤ length e
+      → headerFields (imageHeader (headerGiven n t x) (tableAt 8 m 0)) e ≡ wrote (splice e 0 ((n ∷ []) ++ bytesOf 2 t ++ x ++ m))
   unfolding headerFields
   image-fields e h s =
-      rw (image-accepted (headerOf n t x) (tableAt 8 m 0) typed table h, le-ltb _ 83 s, parse-image (headerOf n t x) (tableAt 8 m 0) typed, table-image (headerOf n t x) (tableAt 8 m 0) table, bytes-given)
+      rw (image-accepted (headerGiven n t x) (tableAt 8 m 0) typed table h, le-ltb _ 83 s, parse-image (headerGiven n t x) (tableAt 8 m 0) typed, table-image (headerGiven n t x) (tableAt 8 m 0) table, bytes-given)
 
 -- a header that is written: its fields are read as n, t and the bytes that were given
 pub read-back : (n t : ℕ) (x m d e : List ℕ) → AreBytes x → headerWritten n t x m d .answer ≡ 0 → 83 ≤ length e
@@ -83,7 +83,7 @@ unfolding headerWritten writeHeader
 read-back n t x m d e b z s = go (fieldsFit n t x m) (headerFits h k) (ltb (length d) 512) refl refl z
   where
     h : Header
-    h = headerOf n t x
+    h = headerGiven n t x
 
     k : List (List ℕ)
     k = tableAt 8 m 0

@@ -24,8 +24,8 @@ use Rattle.area.proofs.Formed.{formed}
 use Rattle.area_calls.specs.Calls.{AreaStep, imaged, setupOn, stepOn}
 use Rattle.melontime.specs.Numbers.{tells, recordLength, fieldsLength, areaLength, entryMade, stepNumber, listedNumber}
 use Rattle.melontime.specs.Calls.{HostStep, recordAfter, hostStep}
-use Rattle.melontime.specs.Headers.{fieldsFit, headerOf, headerWritten, headerFields}
-use Rattle.melontime.specs.Archives.{recordFound, Listing}
+use Rattle.melontime.specs.Headers.{fieldsFit, headerGiven, headerWritten, headerFields}
+use Rattle.melontime.specs.Archives.{recordFound, Lists}
 use Rattle.melontime.proofs.Tests.{by-test}
 
 -- a call that writes is answered with 0, or has left the buffer as it was
@@ -45,7 +45,7 @@ pub record RefusedLeaves : Type 0 where
   pub host-header-read : (block d : List ℕ) → LeavesRefused d (headerFields block d)
   pub host-record-found : (a : List ℕ) (k : ℕ) (d : List ℕ) → LeavesRefused d (recordFound a k d)
   -- a list, whose refusals are the numbers below 1,000
-  pub unordered-list : (a : List ℕ) (k : ℕ) (before after : List ℕ) (r : ℕ) → Listing a k before after r → r < tells → after ≡ before
+  pub unordered-list : (a : List ℕ) (k : ℕ) (before after : List ℕ) (r : ℕ) → Lists a k before after r → r < tells → after ≡ before
 
 -- ---- over the tests that refuse
 -- a refusal leaves the buffer; what was written was not refused
@@ -80,7 +80,7 @@ both-leave p a d b = by-test (λ (o : HostStep). o .number < entryMade → (o .a
     by (entry x) e l = absurd (omega arith)
     by (modeAfter i m q) e l = absurd (omega arith)
 
-list-leaves : (a : List ℕ) (k : ℕ) (before after : List ℕ) (r : ℕ) → Listing a k before after r → r < tells → after ≡ before
+list-leaves : (a : List ℕ) (k : ℕ) (before after : List ℕ) (r : ℕ) → Lists a k before after r → r < tells → after ≡ before
 list-leaves a k before after r q l = go (unorderedAnswer a k (length before)) (q .number) (q .leaves)
   where
     go : (x : Listed) → r ≡ listedNumber x → ListAfter a k before after x → after ≡ before
@@ -101,7 +101,7 @@ refused-leaves-all =
       header-write = header-leaves;
       entries-write = λ number rs d. by-test (LeavesRefused d) (eqb (length rs) 0 || ltb 480 (length rs)) kept (by-test (LeavesRefused d) (entriesFit number rs) (roomy d 512 11 _) kept);
       record-read = λ block k d. by-test (LeavesRefused d) (wellMadeEntries block) (by-test (LeavesRefused d) (ltb k (countOf block)) (roomy d 32 11 _) kept) kept;
-      host-header-write = λ n t x m d. by-test (LeavesRefused d) (fieldsFit n t x m) (header-leaves (headerOf n t x) _ d) kept;
+      host-header-write = λ n t x m d. by-test (LeavesRefused d) (fieldsFit n t x m) (header-leaves (headerGiven n t x) _ d) kept;
       host-header-read = λ block d. by-test (LeavesRefused d) (wellMadeHeader block) (roomy d fieldsLength areaLength _) kept;
       host-record-found = λ a k d. by-test (LeavesRefused d) (eqb (findRecord a k) 0) (roomy d recordLength areaLength _) kept;
       unordered-list = list-leaves;

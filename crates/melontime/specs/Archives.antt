@@ -19,6 +19,6 @@ recordFound a k d =
     (refused (findRecord a k) d)
 
 -- the call of record k's unordered list returned r, and left the list as `after`
-pub record Listing (a : List ℕ) (k : ℕ) (before after : List ℕ) (r : ℕ) : Type 0 where
+pub record Lists (a : List ℕ) (k : ℕ) (before after : List ℕ) (r : ℕ) : Type 0 where
   pub number : r ≡ listedNumber (unorderedAnswer a k (length before))
   pub leaves : ListAfter a k before after (unorderedAnswer a k (length before))

@@ -7,7 +7,7 @@ use lib.Dec.{eqb}
 use lib.ListN.{length}
 use Rattle.record.specs.Record.{imageRecord}
 use Rattle.reset.specs.Steps.{Step, Answer, refused, entry, modeAfter}
-use Rattle.steps.specs.Answers.{recordOf}
+use Rattle.steps.specs.Answers.{eventRecord}
 use Rattle.area_calls.specs.Calls.{AreaStep, stepOn}
 use Rattle.steps.specs.declared.answer.Stepped.{Stepped}
 use Rattle.melontime.specs.Numbers.{recordLength, areaLength, stepNumber, isEntry}
@@ -15,7 +15,7 @@ use Rattle.melontime.specs.Numbers.{recordLength, areaLength, stepNumber
 -- an accepted entry writes its record; every other answer leaves the 32 bytes
 abbrev pub recordAfter : List ℕ → Answer → List ℕ
 recordAfter d (refused k) = d
-recordAfter d (entry e) = imageRecord (recordOf e)
+recordAfter d (entry e) = imageRecord (eventRecord e)
 recordAfter d (modeAfter i m p) = d
 
 -- a step's number, and the area and the record's bytes afterwards

@@ -17,12 +17,12 @@ unfoldable pub fieldsFit : ℕ → ℕ → List ℕ → List ℕ → Bool
 fieldsFit n t x m = eqb (length x) 16 && (eqb (length m) 64 && (leb n 255 && leb t 65535))
 
 -- the allowances are two bytes each, little-endian
-abbrev pub headerOf : ℕ → ℕ → List ℕ → Header
-headerOf n t x = record { n = n; t = t; allowances = numsAt 2 8 x 0 }
+abbrev pub headerGiven : ℕ → ℕ → List ℕ → Header
+headerGiven n t x = record { n = n; t = t; allowances = numsAt 2 8 x 0 }
 
 -- fields that do not fit are 1; else as the header's writer, with the limits row by row
 unfoldable pub headerWritten : ℕ → ℕ → List ℕ → List ℕ → List ℕ → Written
-headerWritten n t x m d = cond (fieldsFit n t x m) (writeHeader (headerOf n t x) (tableAt 8 m 0) d) (refused malformed d)
+headerWritten n t x m d = cond (fieldsFit n t x m) (writeHeader (headerGiven n t x) (tableAt 8 m 0) d) (refused malformed d)
 
 -- ---- reading
 -- the 83 bytes of a header's fields: n, t, the allowances, the limits row by row

@@ -12,8 +12,8 @@ ghost use Rattle.area_calls.specs.Calls.{setupOn, restOn};
 ghost use Rattle.quiescence.specs.View.{restView};
 ghost use Rattle.melontime.specs.Numbers.{recordLength, fieldsLength, greatest, blockNumber, restNumber, orderNumber, verdictNumber, countedNumber, listedNumber, codeNumber, isEntry};
 ghost use Rattle.melontime.specs.Calls.{Returns, eventAfter};
-ghost use Rattle.melontime.specs.Headers.{fieldsFit, headerOf, headerWritten, fieldBytes, headerFields};
-ghost use Rattle.melontime.specs.Archives.{recordFound, Listing};
+ghost use Rattle.melontime.specs.Headers.{fieldsFit, headerGiven, headerWritten, fieldBytes, headerFields};
+ghost use Rattle.melontime.specs.Archives.{recordFound, Lists};
 use archive::Counted;
 use clock::Verdict;
 use concurrent::Listed;
@@ -250,7 +250,7 @@ fn fields_fit(n: u32, t: u32, allowances: &[u8], limits: &[u8]) -> bool
 
 fn header_of(n: u8, t: u16, allowances: &[u8]) -> Header
     requires { ⌜ length (now allowances) ≡ 16 ⌝ }
-    ensures { λ r. ⌜ r ≡ headerOf n t (now (allowances .entry)) ⌝ }
+    ensures { λ r. ⌜ r ≡ headerGiven n t (now (allowances .entry)) ⌝ }
 {
     let row = codec::get_row(allowances, 0);
     Header {
@@ -346,7 +346,7 @@ fn listed_number(answer: Listed) -> u64
 
 #[no_mangle]
 pub extern "C" fn melontime_unordered(archive: &[u8], number: u64, list: &mut [u64]) -> u64
-    ensures { λ r. ⌜ Listing (now (archive .entry)) number (now (list .entry)) (now (list .exit)) r ⌝ }
+    ensures { λ r. ⌜ Lists (now (archive .entry)) number (now (list .entry)) (now (list .exit)) r ⌝ }
 {
     listed_number(concurrent::unordered(archive, number as usize, list))
 }

@@ -17,7 +17,7 @@ use Rattle.reset.specs.Clock.{vector, Clock}
 use Rattle.reset.specs.State.{Item, message, resetReq, resetDone, Station, State, stationAt, linkAt, sentTo}
 use Rattle.reset.specs.Steps.{inBounds, Step, doEnter, sending, doSend, doReceive, doMark, doStart, step, phaseBounded, countBounded, linkBounded}
 use Rattle.reset.specs.Network.{initialStation, initial}
-use Rattle.reset.specs.WellFormed.{registerFits, ofStation, countFits, countsFit, modeFits, phaseFits, stationFits, itemFits, itemFitsAt, linkFits, shapeFits, stationFitsAt, linkFitsAt, wellFormed, stepFits}
+use Rattle.reset.specs.WellFormed.{registerFits, ofStation, countFits, timestampFits, modeFits, phaseFits, stationFits, itemFits, itemFitsAt, linkFits, shapeFits, stationFitsAt, linkFitsAt, wellFormed, stepFits}
 use Rattle.reset.proofs.Views.{zeros-at, station-set, station-set-link}
 use Rattle.reset.proofs.StepLaws.{of-step}
 use Rattle.reset.proofs.Initial.{initial-station, initial-link}
@@ -97,8 +97,8 @@ of-small : (c : Config) (i b x : ℕ) → x ≤ ofStation c i b → x ≤ b
 of-small c i b x h = by-test (isStation c i) (λ e. rw e at h) (λ e. let z : x ≤ 0 = rw e at h in omega arith)
 
 -- every count of eight that fit is at most the bound
-pub counts-small : (c : Config) (b : ℕ) (v : List ℕ) → countsFit c b v ≡ true → (k : ℕ) → k < 8 → getD v k 0 ≤ b
-unfolding countsFit
+pub counts-small : (c : Config) (b : ℕ) (v : List ℕ) → timestampFits c b v ≡ true → (k : ℕ) → k < 8 → getD v k 0 ≤ b
+unfolding timestampFits
 counts-small c b v h k l =
     let p = both (eqb (length v) 8) _ h in
     of-small c k b (getD v k 0) (leb-true _ _ (every-at 8 (countFits c b v) k (p .1) l))
@@ -106,12 +106,12 @@ counts-small c b v h k l =
 module _ (c : Config) (i : ℕ) (x : Station vector) (h : stationFits c i x ≡ true) where
   pub station-counts : (k : ℕ) → k < 8 → getD (x .time) k 0 ≤ c .t
   unfolding stationFits
-  station-counts k l = of-small c i (c .t) _ (counts-small c (ofStation c i (c .t)) (x .time) (both (countsFit c (ofStation c i (c .t)) (x .time)) _ h .0) k l)
+  station-counts k l = of-small c i (c .t) _ (counts-small c (ofStation c i (c .t)) (x .time) (both (timestampFits c (ofStation c i (c .t)) (x .time)) _ h .0) k l)
 
   pub station-phase : x .phase ≤ 999999
   unfolding stationFits
   station-phase =
-      let p = both (countsFit c (ofStation c i (c .t)) (x .time)) _ h in
+      let p = both (timestampFits c (ofStation c i (c .t)) (x .time)) _ h in
       let q = both (modeFits c i x) _ (p .1) in
       of-small c i 999999 (x .phase) (leb-true _ _ (both (phaseFits c i x) _ (q .1) .0))
 
@@ -171,7 +171,7 @@ module _ (c : Config) (s : State vector) (h : Formed c s) where
           let f = fits-sending c i _ (parts .here) below si j near l in
           let e : stationAt (doSend i j g s .after) i ≡ x = station-set-link _ i j _ i ∙ station-set s i x in
           let u : (k : ℕ) → k < 8 → getD (x .time) k 0 ≤ c .t = λ k kl. leb-true _ _ (rw e at (bounds c _ b .counts i k below kl)) in
-          let m : itemFits c (message (x .time) g) ≡ true = join (countsFit c (c .t) (x .time)) _ (counts-fit c (x .time) (c .t) (f .counts) u) r in
+          let m : itemFits c (message (x .time) g) ≡ true = join (timestampFits c (c .t) (x .time)) _ (counts-fit c (x .time) (c .t) (f .counts) u) r in
           closed _ (parts-put c i below _ m _ j near (parts-station c i below s x f parts)) b
 
       -- the rest of a link, of which the first item is taken
@@ -182,7 +182,7 @@ module _ (c : Config) (s : State vector) (h : Formed c s) where
           → inBounds c (doReceive i j w g q s .after) ≡ true → Formed c (doReceive i j w g q s .after)
       formed-receive w g q e b =
           let z = rest (message w g) q e in
-          let k = counts-of c w (c .t) (both (countsFit c (c .t) w) _ (z zero) .0) in
+          let k = counts-of c w (c .t) (both (timestampFits c (c .t) w) _ (z zero) .0) in
           closed _ (parts-link c i below _ j i q near below (λ m. z (suc m)) (parts-station c i below s _ (fits-receiving c i _ (parts .here) below si j w k) parts)) b
 
       formed-mark : (x : Station vector) (y : Item vector) (q : List (Item vector)) → linkAt s j i ≡ y ∷ q → Fits c i x

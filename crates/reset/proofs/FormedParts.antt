@@ -20,7 +20,7 @@ use Rattle.reset.specs.Config.{Config, isStation, neighbours, limitAt, a
 use Rattle.reset.specs.Clock.{vector}
 use Rattle.reset.specs.State.{Item, resetReq, resetDone, Station, State, noneSeen, stationAt, linkAt, reqSeen, doneSeen, sentTo, setStation, setLink, putOn, putLinked, putFirst, putOnAll}
 use Rattle.reset.specs.Steps.{begun, renewed, woken, beginReset, renew, wake, Rule, ruleA, ruleB, ruleC, noRule, ruleOf, apply, turnOnce, turn, entered, sending, receiving, withReq, withDone}
-use Rattle.reset.specs.WellFormed.{ofStation, countFits, countsFit, modeFits, phaseFits, ownFits, sentFitsTo, sentFits, marksFitFrom, marksFit, stationFits, itemFits, rowLong, shapeFits}
+use Rattle.reset.specs.WellFormed.{ofStation, countFits, timestampFits, modeFits, phaseFits, ownFits, sentFitsTo, sentFits, marksFitFrom, marksFit, stationFits, itemFits, rowLong, shapeFits}
 use Rattle.reset.proofs.Views.{zeros-at, none-at, station-set, station-set-other, link-set-station, station-set-link, link-set, link-set-row, link-set-col}
 use Rattle.reset.proofs.Cases.{by-test, by-dec}
 
@@ -30,8 +30,8 @@ pub record Counts (c : Config) (v : List ℕ) : Type 0 where
   pub none-above : (k : ℕ) → k < 8 → isStation c k ≡ false → getD v k 0 ≡ 0
 
 module _ (c : Config) (v : List ℕ) where
-  pub counts-of : (b : ℕ) → countsFit c b v ≡ true → Counts c v
-  unfolding countsFit
+  pub counts-of : (b : ℕ) → timestampFits c b v ≡ true → Counts c v
+  unfolding timestampFits
   counts-of b h =
       let p = both (eqb (length v) 8) _ h in
       record {
@@ -40,8 +40,8 @@ module _ (c : Config) (v : List ℕ) where
             let r : getD v k 0 ≤ 0 = leb-true _ _ (rw z at q) in omega arith;
       }
 
-  pub counts-fit : (b : ℕ) → Counts c v → ((k : ℕ) → k < 8 → getD v k 0 ≤ b) → countsFit c b v ≡ true
-  unfolding countsFit
+  pub counts-fit : (b : ℕ) → Counts c v → ((k : ℕ) → k < 8 → getD v k 0 ≤ b) → timestampFits c b v ≡ true
+  unfolding timestampFits
   counts-fit b h u =
       join (eqb (length v) 8) _ (eq-eqb _ _ (h .eight))
       (every-of 8 (countFits c b v) (λ k l. by-test (isStation c k) (λ e. rw e (le-leb _ _ (u k l))) (λ e. rw (e, h .none-above k l e))))
@@ -111,7 +111,7 @@ module _ (c : Config) (i : ℕ) (x : Station vector) where
   pub fits-of : stationFits c i x ≡ true → Fits c i x
   unfolding stationFits sentFits marksFit
   fits-of h =
-      let p = both (countsFit c (ofStation c i (c .t)) (x .time)) _ h in
+      let p = both (timestampFits c (ofStation c i (c .t)) (x .time)) _ h in
       let o = both (ownFits c i x) _ (both (phaseFits c i x) _ (both (modeFits c i x) _ (p .1) .1) .1) in
       let a = both (eqb (length (x .sent)) 8 && every 8 (sentFitsTo c i x)) _ (o .1) in
       let s = both (eqb (length (x .sent)) 8) _ (a .0) in
@@ -132,7 +132,7 @@ module _ (c : Config) (i : ℕ) (x : Station vector) where
       → Fits c i x → stationFits c i x ≡ true
   unfolding stationFits sentFits marksFit
   fits-back b e m p u h =
-      join (countsFit c (ofStation c i (c .t)) (x .time)) _ (rw e (counts-fit c (x .time) b (h .counts) u))
+      join (timestampFits c (ofStation c i (c .t)) (x .time)) _ (rw e (counts-fit c (x .time) b (h .counts) u))
       (join (modeFits c i x) _ m
       (join (phaseFits c i x) _ p
       (join (ownFits c i x) _ (le-leb _ _ (h .own))

@@ -33,14 +33,14 @@ module _ {K : Clock} (c : Config) (s : State K) (v : Invariant c s) (i j : ℕ) 
   phase-near = let k = flow-reqs _ _ _ (linkAt s i j) _ _ (v .flow i j ij) in omega arith
 
 -- A change that keeps the invariant and moves no message.
-pub record Kept {K : Clock} (c : Config) (s s′ : State K) : Type 0 where
+pub record Maintained {K : Clock} (c : Config) (s s′ : State K) : Type 0 where
   pub inv : Invariant c s′
   pub unmoved : (a b : ℕ) → neighbours c a b ≡ true → waiting s′ a b ≡ waiting s a b
 
-pub kept-still : {K : Clock} {c : Config} {s : State K} → Invariant c s → Kept c s s
+pub kept-still : {K : Clock} {c : Config} {s : State K} → Invariant c s → Maintained c s s
 kept-still v = record { inv = v; unmoved = λ a b h. refl }
 
-pub kept-then : {K : Clock} (c : Config) {s s′ s″ : State K} → Kept c s s′ → Kept c s′ s″ → Kept c s s″
+pub kept-then : {K : Clock} (c : Config) {s s′ s″ : State K} → Maintained c s s′ → Maintained c s′ s″ → Maintained c s s″
 kept-then c k l = record { inv = l .inv; unmoved = λ a b h. l .unmoved a b h ∙ k .unmoved a b h }
 
 -- ---- the sending end: station i changes its record and puts `out b` on its link to b, for every neighbour b at once
@@ -87,7 +87,7 @@ module _ {K : Clock} (c : Config) (u : Rules c) (i : ℕ) (s s′ : State K) (ou
   puts-still a b h n (yes p) = rw (p, m .kept a i n, m .head-reqs a (u .both-ways a i (rw p at h)))
   puts-still a b h n (no p) = rw (m .kept a b n, m .others b p)
 
-  pub puts-quiet : ((b : ℕ) → tags (target (stationAt s i)) (out b) ≡ []) → Kept c s s′
+  pub puts-quiet : ((b : ℕ) → tags (target (stationAt s i)) (out b) ≡ []) → Maintained c s s′
   puts-quiet z =
       record {
         inv = puts-keeps;
@@ -97,7 +97,7 @@ module _ {K : Clock} (c : Config) (u : Rules c) (i : ℕ) (s s′ : State K) (ou
       }
 
 -- ---- the receiving end: station i takes the first item x off its link from j, and of its record what the links read changes only at j
-pub record Takes {K : Clock} (c : Config) (i j : ℕ) (s s′ : State K) (x : Item K) (q : List (Item K)) (taken : List (Tagged K)) : Type 0 where
+pub record TakesOff {K : Clock} (c : Config) (i j : ℕ) (s s′ : State K) (x : Item K) (q : List (Item K)) (taken : List (Tagged K)) : Type 0 where
   pub held : linkAt s j i ≡ x ∷ q
   pub left : linkAt s′ j i ≡ q
   pub others : (k : ℕ) → k ≢ i → stationAt s′ k ≡ stationAt s k
@@ -113,7 +113,7 @@ pub record Takes {K : Clock} (c : Config) (i j : ℕ) (s s′ : State K) (x : It
       → Flow (stationAt s i .phase) (reqsTaken (stationAt s′ i) j) (donesTaken (stationAt s′ i) j) q (target (stationAt s j)) (suc (stationAt s j .phase))
 
 module _ {K : Clock} (c : Config) (u : Rules c) (i j : ℕ) (ij : neighbours c i j ≡ true) (s s′ : State K) (x : Item K) (q : List (Item K))
-    (taken : List (Tagged K)) (v : Invariant c s) (m : Takes c i j s s′ x q taken) where
+    (taken : List (Tagged K)) (v : Invariant c s) (m : TakesOff c i j s s′ x q taken) where
   ji : neighbours c j i ≡ true
   ji = u .both-ways i j ij
 

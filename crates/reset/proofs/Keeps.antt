@@ -20,7 +20,7 @@ use Rattle.reset.proofs.Views.{none-at, station-set, station-set-other,
 use Rattle.reset.proofs.TurnLaws.{Tested, rule-tested}
 use Rattle.reset.proofs.Changes.{muted, target, reqsTaken, donesTaken, Tagged, tags, waiting, sentOn, firstWith, gotOn}
 use Rattle.reset.proofs.Flow.{Flow, flow-reqs, flow-dones}
-use Rattle.reset.proofs.Invariant.{Invariant, Kept, kept-still, kept-then, Puts, puts-quiet, Carries, target-near, phase-near, puts-keeps, puts-waiting, puts-still, Takes, takes-keeps, takes-waiting, takes-still}
+use Rattle.reset.proofs.Invariant.{Invariant, Maintained, kept-still, kept-then, Puts, puts-quiet, Carries, target-near, phase-near, puts-keeps, puts-waiting, puts-still, TakesOff, takes-keeps, takes-waiting, takes-still}
 use Rattle.reset.proofs.Cases.{clash, by-dec}
 
 every-neighbour-at : (c : Config) → Rules c → (i : ℕ) (p : ℕ → Bool) → everyNeighbour c i p ≡ true → (j : ℕ) → neighbours c i j ≡ true → p j ≡ true
@@ -48,7 +48,7 @@ module _ {K : Clock} (c : Config) (u : Rules c) (i : ℕ) (s : State K) where
         seen′ = rw (station-put-all, station-set) d;
       }
 
-  pub begin-keeps : stationAt s i .mode ≡ normal → Invariant c s → Kept c s (beginReset c i s)
+  pub begin-keeps : stationAt s i .mode ≡ normal → Invariant c s → Maintained c s (beginReset c i s)
   unfolding beginReset
   begin-keeps h v =
       puts-quiet c u i s _ _ v
@@ -58,7 +58,7 @@ module _ {K : Clock} (c : Config) (u : Rules c) (i : ℕ) (s : State K) where
       (λ j k e. clash (cc))) (λ b. refl)
 
   -- rule a
-  renew-keeps : stationAt s i .mode ≡ mute → everyNeighbour c i (reqSeen (stationAt s i)) ≡ true → Invariant c s → Kept c s (renew c i s)
+  renew-keeps : stationAt s i .mode ≡ mute → everyNeighbour c i (reqSeen (stationAt s i)) ≡ true → Invariant c s → Maintained c s (renew c i s)
   unfolding renew
   renew-keeps h a v =
       puts-quiet c u i s _ _ v
@@ -89,23 +89,23 @@ module _ {K : Clock} (c : Config) (u : Rules c) (i : ℕ) (s : State K) where
       }
 
   -- rule b
-  wake-keeps : stationAt s i .mode ≡ standBy → everyNeighbour c i (doneSeen (stationAt s i)) ≡ true → Invariant c s → Kept c s (wake i s)
+  wake-keeps : stationAt s i .mode ≡ standBy → everyNeighbour c i (doneSeen (stationAt s i)) ≡ true → Invariant c s → Maintained c s (wake i s)
   unfolding wake
   wake-keeps h a v =
       puts-quiet c u i s _ _ v
       (puts-own (woken (stationAt s i)) refl (rw h) refl refl (λ j k e. every-neighbour-at c u i (doneSeen (stationAt s i)) a j k)) (λ b. refl)
 
-  rule-keeps : (r : Rule) → Tested c i (stationAt s i) r → Invariant c s → Kept c s (apply c i s r)
+  rule-keeps : (r : Rule) → Tested c i (stationAt s i) r → Invariant c s → Maintained c s (apply c i s r)
   rule-keeps ruleA t v = renew-keeps (t .0) (t .1) v
   rule-keeps ruleB t v = wake-keeps (t .0) (t .1) v
   rule-keeps ruleC t v = begin-keeps (t .0) v
   rule-keeps noRule t v = kept-still v
 
-  turn-once-keeps : Invariant c s → Kept c s (turnOnce c i s)
+  turn-once-keeps : Invariant c s → Maintained c s (turnOnce c i s)
   unfolding turnOnce
   turn-once-keeps v = rule-keeps (ruleOf c i (stationAt s i)) (rule-tested c i (stationAt s i)) v
 
-pub turn-keeps : {K : Clock} (c : Config) → Rules c → (i : ℕ) (s : State K) → Invariant c s → Kept c s (turn c i s)
+pub turn-keeps : {K : Clock} (c : Config) → Rules c → (i : ℕ) (s : State K) → Invariant c s → Maintained c s (turn c i s)
 unfolding turn
 turn-keeps c u i s v =
     let k₁ = turn-once-keeps c u i s v in
@@ -113,7 +113,7 @@ turn-keeps c u i s v =
     kept-then c (kept-then c k₁ k₂) (turn-once-keeps c u i _ (k₂ .inv))
 
 -- ---- enter
-pub enter-keeps : {K : Clock} (c : Config) → Rules c → (s : State K) → Invariant c s → (i : ℕ) → Kept c s (setStation s i (entered i (stationAt s i)))
+pub enter-keeps : {K : Clock} (c : Config) → Rules c → (s : State K) → Invariant c s → (i : ℕ) → Maintained c s (setStation s i (entered i (stationAt s i)))
 enter-keeps c u s v i =
     puts-quiet c u i s _ _ v (puts-own c u i s (entered i (stationAt s i)) refl refl refl refl (λ j h e. v .seen i j h e)) (λ b. refl)
 
@@ -191,7 +191,7 @@ module _ {K : Clock} (c : Config) (u : Rules c) (s : State K) (v : Invariant c s
       → (Carries j (stationAt s j) (y ∷ q) (stationAt s i) → tags (reqsTaken (stationAt s i) j) (y ∷ q) ≡ taken ++ tags (reqsTaken x j) q)
       → (Carries j (stationAt s j) (y ∷ q) (stationAt s i)
       → Flow (stationAt s i .phase) (reqsTaken x j) (donesTaken x j) q (target (stationAt s j)) (suc (stationAt s j .phase)))
-      → Takes c i j s (setLink (setStation s i x) j i q) y q taken
+      → TakesOff c i j s (setLink (setStation s i x) j i q) y q taken
   taken-by x y taken held md ph ro dr dm ms mv =
       record {
         held = held;
@@ -210,7 +210,7 @@ module _ {K : Clock} (c : Config) (u : Rules c) (s : State K) (v : Invariant c s
 
   -- a message: it lies in the receiver's phase
   takes-message : (w : K .Load) (g : ℕ) → linkAt s j i ≡ message w g ∷ q
-      → Takes c i j s (doReceive i j w g q s .after) (message w g) q (record { phase = stationAt s i .phase; load = w; register = g } ∷ [])
+      → TakesOff c i j s (doReceive i j w g q s .after) (message w g) q (record { phase = stationAt s i .phase; load = w; register = g } ∷ [])
   takes-message w g held =
       taken-by (receiving i j w (stationAt s i)) (message w g) _ held refl refl (λ k n. refl) (λ k n. refl) (λ k d. d)
       (λ h. let e : reqsTaken (stationAt s i) j ≡ stationAt s i .phase = omega arith in
@@ -218,7 +218,7 @@ module _ {K : Clock} (c : Config) (u : Rules c) (s : State K) (v : Invariant c s
       (λ h. h .2)
 
   -- reset_req: it was not seen before
-  takes-req : linkAt s j i ≡ resetReq ∷ q → Takes c i j s (setLink (setStation s i (withReq j (stationAt s i))) j i q) resetReq q []
+  takes-req : linkAt s j i ≡ resetReq ∷ q → TakesOff c i j s (setLink (setStation s i (withReq j (stationAt s i))) j i q) resetReq q []
   takes-req held =
       taken-by (withReq j (stationAt s i)) resetReq [] held refl refl (λ k n. put-other false (stationAt s i .reqs) j k true n) (λ k n. refl) (λ k d. d)
       (λ h. rw (put-same, moved h))
@@ -231,7 +231,7 @@ module _ {K : Clock} (c : Config) (u : Rules c) (s : State K) (v : Invariant c s
           omega arith
 
   -- reset_done: it was not seen before
-  takes-done : linkAt s j i ≡ resetDone ∷ q → Takes c i j s (setLink (setStation s i (withDone j (stationAt s i))) j i q) resetDone q []
+  takes-done : linkAt s j i ≡ resetDone ∷ q → TakesOff c i j s (setLink (setStation s i (withDone j (stationAt s i))) j i q) resetDone q []
   takes-done held =
       taken-by (withDone j (stationAt s i)) resetDone [] held refl refl (λ k n. refl) (λ k n. put-other false (stationAt s i .dones) j k true n)
       (λ k d. by-dec (ℕ-discrete k j) (λ p. rw (p, put-same)) (λ p. put-other false (stationAt s i .dones) j k true p ∙ d))
@@ -263,7 +263,7 @@ module _ {K : Clock} (c : Config) (u : Rules c) (s : State K) (v : Invariant c s
       (append-nil (waiting s a b) ∙ sym (takes-still c u i j ij s _ (message w g) q _ v m a b h (ℕ-discrete b i) (λ e f. p e))))
 
   -- a control item moves none
-  unmoved-take : (s′ : State K) (y : Item K) → Takes c i j s s′ y q [] → Kept c s s′
+  unmoved-take : (s′ : State K) (y : Item K) → TakesOff c i j s s′ y q [] → Maintained c s s′
   unmoved-take s′ y m =
       record {
         inv = takes-keeps c u i j ij s s′ y q [] v m;
@@ -273,8 +273,8 @@ module _ {K : Clock} (c : Config) (u : Rules c) (s : State K) (v : Invariant c s
             (λ p. takes-still c u i j ij s s′ y q [] v m a b h (ℕ-discrete b i) (λ e f. p e));
       }
 
-  pub req-keeps : linkAt s j i ≡ resetReq ∷ q → Kept c s (setLink (setStation s i (withReq j (stationAt s i))) j i q)
+  pub req-keeps : linkAt s j i ≡ resetReq ∷ q → Maintained c s (setLink (setStation s i (withReq j (stationAt s i))) j i q)
   req-keeps held = unmoved-take _ resetReq (takes-req held)
 
-  pub done-keeps : linkAt s j i ≡ resetDone ∷ q → Kept c s (setLink (setStation s i (withDone j (stationAt s i))) j i q)
+  pub done-keeps : linkAt s j i ≡ resetDone ∷ q → Maintained c s (setLink (setStation s i (withDone j (stationAt s i))) j i q)
   done-keeps held = unmoved-take _ resetDone (takes-done held)

@@ -15,7 +15,7 @@ use Rattle.reset.proofs.Views.{station-set, station-set-other, station-
 use Rattle.reset.proofs.TurnLaws.{station-turn-once, station-turn-once-other, station-turn-other}
 use Rattle.reset.proofs.StepLaws.{of-step}
 use Rattle.reset.proofs.Changes.{Move, stays, renews, Quiet, Summary}
-use Rattle.reset.proofs.Invariant.{Invariant, Kept, kept-then}
+use Rattle.reset.proofs.Invariant.{Invariant, Maintained, kept-then}
 use Rattle.reset.proofs.Keeps.{begin-keeps, turn-keeps, enter-keeps, send-keeps, send-log, receive-keeps, receive-log, req-keeps, done-keeps}
 use Rattle.reset.proofs.Cases.{by-dec}
 
@@ -45,7 +45,7 @@ module _ {K : Clock} (c : Config) (i : ℕ) where
 
   -- a change of station i's record to x, in the same phase and with the same time, then the reset rules
   settle-quiet : (s s′ : State K) (x : Station K) → stationAt s′ i ≡ x → ((k : ℕ) → k ≢ i → stationAt s′ k ≡ stationAt s k)
-      → x .phase ≡ stationAt s i .phase → x .time ≡ stationAt s i .time → Kept c s (turn c i s′)
+      → x .phase ≡ stationAt s i .phase → x .time ≡ stationAt s i .time → Maintained c s (turn c i s′)
       → Quiet c s i (stationAt (turn c i s′) i .mode) (stationAt (turn c i s′) i .phase) (turn c i s′)
   settle-quiet s s′ x here os p q k =
       record {
@@ -125,7 +125,7 @@ module _ {K : Clock} (c : Config) (u : Rules c) (s : State K) (v : Invariant c s
 
   -- a control item, with the mark in the record x
   does-mark : (i j : ℕ) (x : Station K) (q : List (Item K)) → x .phase ≡ stationAt s i .phase → x .time ≡ stationAt s i .time
-      → Kept c s (setLink (setStation s i x) j i q) → Does c s (recv i j) (doMark c i j x q s)
+      → Maintained c s (setLink (setStation s i x) j i q) → Does c s (recv i j) (doMark c i j x q s)
   does-mark i j x q p t k =
       let l = kept-then c k (turn-keeps c u i _ (k .inv)) in (
         l .inv,

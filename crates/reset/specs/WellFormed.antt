@@ -24,8 +24,8 @@ ofStation c i b = cond (isStation c i) b 0
 abbrev pub countFits : Config → ℕ → List ℕ → ℕ → Bool
 countFits c b v k = leb (getD v k 0) (ofStation c k b)
 
-unfoldable pub countsFit : Config → ℕ → List ℕ → Bool
-countsFit c b v = eqb (length v) 8 && every 8 (countFits c b v)
+unfoldable pub timestampFits : Config → ℕ → List ℕ → Bool
+timestampFits c b v = eqb (length v) 8 && every 8 (countFits c b v)
 
 -- ---- the record of station i. For i of n and above every bound is 0, so that the record is the blank one
 -- normal, mute or stand-by
@@ -56,12 +56,12 @@ marksFit c i x = eqb (length (x .reqs)) 8 && (eqb (length (x .dones)) 8 && every
 
 unfoldable pub stationFits : Config → ℕ → Station vector → Bool
 stationFits c i x =
-    countsFit c (ofStation c i (c .t)) (x .time) && (modeFits c i x && (phaseFits c i x && (ownFits c i x && (sentFits c i x && marksFit c i x))))
+    timestampFits c (ofStation c i (c .t)) (x .time) && (modeFits c i x && (phaseFits c i x && (ownFits c i x && (sentFits c i x && marksFit c i x))))
 
 -- ---- the link from i to j
 -- a message's counts and register number in range
 abbrev pub itemFits : Config → Item vector → Bool
-itemFits c (message v g) = countsFit c (c .t) v && registerFits g
+itemFits c (message v g) = timestampFits c (c .t) v && registerFits g
 itemFits c resetReq = true
 itemFits c resetDone = true
 

@@ -13,7 +13,7 @@ use Rattle.reset.specs.Clock.{vector}
 use Rattle.reset.specs.State.{Mode, normal, mute, standBy, Item, message, resetReq, resetDone, Station, State, blankStation, withTime, withPhase, withSent, withReqs, withDones, setStation, setLink}
 use Rattle.reset.specs.Steps.{Step, enter, send, recv, start}
 use Rattle.reset.specs.Network.{initial, run, quiescent}
-use Rattle.reset.specs.WellFormed.{countsFit, sentFits, marksFit, stationFits, linkFits, shapeFits, wellFormed}
+use Rattle.reset.specs.WellFormed.{timestampFits, sentFits, marksFit, stationFits, linkFits, shapeFits, wellFormed}
 use Rattle.reset.specs.Worked.{net, allow, limitTo, link, Line, entryLine, modeLine, noLine, linesFrom, pair, listing, lone, strict, middle, skewed}
 
 -- ---- headers
@@ -115,7 +115,7 @@ ahead p = setStation (initial vector pair) 1 (withPhase p (withDones (two false 
 
 -- unfolds all that the test and a step compute with
 unfoldable pub formedIn : Config → State vector → Bool
-unfolding kept linesFrom countsFit sentFits marksFit stationFits linkFits shapeFits wellFormed quiescent
+unfolding kept linesFrom timestampFits sentFits marksFit stationFits linkFits shapeFits wellFormed quiescent
 formedIn c s = wellFormed c s
 
 unfoldable pub formed : State vector → Bool

@@ -31,8 +31,8 @@ reqNumber = 2
 abbrev pub doneNumber : ℕ
 doneNumber = 3
 
-abbrev pub itemOf : ℕ → List (Item vector)
-itemOf k = cond (eqb k reqNumber) (resetReq ∷ []) (cond (eqb k doneNumber) (resetDone ∷ []) [])
+abbrev pub controlOf : ℕ → List (Item vector)
+controlOf k = cond (eqb k reqNumber) (resetReq ∷ []) (cond (eqb k doneNumber) (resetDone ∷ []) [])
 
 -- the number of a control item, or 0 for none
 abbrev pub controlFits : ℕ → Bool
@@ -46,7 +46,7 @@ pub record Slots : Type 0 where
 
 -- the items of the slots, in order
 abbrev pub slotItems : Slots → Turning vector
-slotItems t = record { station = t .station; items = itemOf (t .first) ++ itemOf (t .second) }
+slotItems t = record { station = t .station; items = controlOf (t .first) ++ controlOf (t .second) }
 
 -- the code's struct
 abbrev pub slotsView : Turned → Slots

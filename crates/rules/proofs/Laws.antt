@@ -11,7 +11,7 @@ use Rattle.codec.specs.Num.{AreBytes}
 use Rattle.codec.proofs.NumLaws.{Below, below-of, of-below}
 use Rattle.codec.proofs.Has.{num-below, nums-below}
 use Rattle.codec.proofs.EveryLaws.{both, every-at, every-of, every-same}
-use Rattle.header.specs.Header.{rowFits, limitsFit, headerFits, tableAt, parseHeader, imageHeader, wellMadeHeader}
+use Rattle.header.specs.Header.{rowInRange, limitsInRange, headerFits, tableAt, parseHeader, imageHeader, wellMadeHeader}
 use Rattle.header.specs.declared.Header.{Header}
 use Rattle.header.proofs.Laws.{Typed, Table, table-rows, table-row, well-made-parts, parse-image, table-image, image-accepted}
 use Rattle.reset.specs.Reach.{limit}
@@ -26,9 +26,9 @@ allowances-fit a n b =
     rw (eq-eqb _ 8 n)
     (every-of 8 (allowanceFits a) (λ (i : ℕ) (h : i < 8). let g = of-below 65536 a (omega arith) b i in le-leb (getD a i 0) 65535 (omega arith)))
 
-table-fits : (m : List (List ℕ)) → Table m → tableFits m ≡ limitsFit m
-unfolding tableFits limitsFit rowFits limit
-table-fits m y = rw (eq-eqb _ 8 (y .rows)) (every-same 8 (rowFitsAt m) (λ (i : ℕ). rowFits (getD m i [])) (λ (i : ℕ) (h : i < 8). rw (eq-eqb _ 8 (y .cells i h))))
+table-fits : (m : List (List ℕ)) → Table m → tableFits m ≡ limitsInRange m
+unfolding tableFits limitsInRange rowInRange limit
+table-fits m y = rw (eq-eqb _ 8 (y .rows)) (every-same 8 (rowFitsAt m) (λ (i : ℕ). rowInRange (getD m i [])) (λ (i : ℕ) (h : i < 8). rw (eq-eqb _ 8 (y .cells i h))))
 
 -- for fields of a header's types, one test is the other
 pub same-test : (h : Header) (m : List (List ℕ)) → Typed h → Table m → wellMade (headerConfig h m) ≡ headerFits h m
@@ -36,7 +36,7 @@ unfolding wellMade headerFits
 same-test h m y z =
     let g = y .t in
     rw (le-leb (h .t) 65535 (omega arith), allowances-fit (h .allowances) (y .eight) (y .allowances), table-fits m z)
-    (regroup (leb 1 (h .n)) (leb (h .n) 8) (leb 1 (h .t)) (limitsFit m))
+    (regroup (leb 1 (h .n)) (leb (h .n) 8) (leb 1 (h .t)) (limitsInRange m))
   where
     regroup : (a b c d : Bool) → (((a && b) && (c && true)) && (true && d)) ≡ (a && (b && (c && d)))
     regroup false b c d = refl

@@ -18,7 +18,7 @@ use Rattle.record.specs.Record.{parseRecord, wellMadeRecord}
 use Rattle.record.proofs.Laws as record-laws
 use Rattle.header.specs.Header.{imageHeader, parseHeader, tableAt, wellMadeHeader, writeHeader}
 use Rattle.header.proofs.Laws as header-laws
-use Rattle.entries.specs.Entries.{countOf, numberOf, recordOf as placeOf, recordsFit, entriesFit, wellMadeEntries, writeEntries}
+use Rattle.entries.specs.Entries.{countOf, blockNumber, recordOf as placeOf, recordsFit, entriesFit, wellMadeEntries, writeEntries}
 use Rattle.entries.proofs.Laws as entries-laws
 use Rattle.archive.specs.Archive.{recordKnown, blockOf, blocks, allKnown, blockFits, blocksFit, archiveTest, records, recordAt}
 use Rattle.archive.proofs.Tested.{record-place}
@@ -26,7 +26,7 @@ use Rattle.reset.specs.Config.{Config, wellMade}
 use Rattle.rules.specs.Setup.{headerOf}
 use Rattle.rules.proofs.Laws.{well-made-typed, well-made-table, well-made-fits, well-made-accepted}
 use Rattle.causality.specs.HappenedBefore.{Accepted, noEntry, entryAt}
-use Rattle.steps.specs.Answers.{recordOf}
+use Rattle.steps.specs.Answers.{eventRecord}
 use Rattle.run_archive.specs.Made.{bytesOfEntry, recordsOf, blockRecords, madeBlock, blocksFor, archiveOf}
 use Rattle.run_archive.specs.Claims.{InRange, Archived}
 use Rattle.reset.proofs.Cases.{by-test}
@@ -34,7 +34,7 @@ use Rattle.reset.proofs.Cases.{by-test}
 -- ---- the records' bytes
 entry-length : (x : Accepted) → length (bytesOfEntry x) ≡ 32
 unfolding bytesOfEntry
-entry-length x = record-laws.image-length (recordOf (x .entry))
+entry-length x = record-laws.image-length (eventRecord (x .entry))
 
 records-length : (E : List Accepted) → length (recordsOf E) ≡ length E * 32
 unfolding recordsOf
@@ -50,11 +50,11 @@ record-of E k l =
 -- the bytes of a record in range
 accepted-bytes : (c : Config) (x : Accepted) → InRange c (x .entry) → wellMadeRecord (bytesOfEntry x) ≡ true
 unfolding bytesOfEntry
-accepted-bytes c x r = record-laws.image-accepted (recordOf (x .entry)) (r .typed) (r .fits)
+accepted-bytes c x r = record-laws.image-accepted (eventRecord (x .entry)) (r .typed) (r .fits)
 
-pub parsed-bytes : (c : Config) (x : Accepted) → InRange c (x .entry) → parseRecord (bytesOfEntry x) ≡ recordOf (x .entry)
+pub parsed-bytes : (c : Config) (x : Accepted) → InRange c (x .entry) → parseRecord (bytesOfEntry x) ≡ eventRecord (x .entry)
 unfolding bytesOfEntry
-parsed-bytes c x r = record-laws.parse-image (recordOf (x .entry)) (r .typed)
+parsed-bytes c x r = record-laws.parse-image (eventRecord (x .entry)) (r .typed)
 
 -- ---- the records of block b
 module _ (E : List Accepted) (b : ℕ) where
@@ -121,7 +121,7 @@ module _ (c : Config) (E : List Accepted) (w : wellMade c ≡ true) (few : lengt
     unfolding blockFits madeBlock
     made-fits =
         join (wellMadeEntries (madeBlock E b)) _ (reads .accepted)
-        (join (eqb (numberOf (madeBlock E b)) (b + 1)) _ (eq-eqb _ _ (reads .number-back))
+        (join (eqb (blockNumber (madeBlock E b)) (b + 1)) _ (eq-eqb _ _ (reads .number-back))
         (join (eqb (b + 1) (blocksFor (length E)) || eqb (countOf (madeBlock E b)) 15) _
         (by-test (eqb (b + 1) (blocksFor (length E))) (λ e. rw e)
         (λ e. let n : b + 1 ≡ blocksFor (length E) → ⊥ = eqb-false _ _ e in rw e (eq-eqb (countOf (madeBlock E b)) 15 (omega (arith, made-count))))) made-known))

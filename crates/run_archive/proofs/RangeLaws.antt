@@ -22,24 +22,24 @@ use Rattle.reset.specs.Clock.{vector}
 use Rattle.reset.specs.State.{Item, message, Station, State, stationAt}
 use Rattle.reset.specs.Steps.{Step, Entry, Answer, refused, entry, modeAfter, Outcome, entered, entryOf, sending, receiving, step}
 use Rattle.reset.specs.Network.{initial, log}
-use Rattle.reset.specs.WellFormed.{registerFits, ofStation, countFits, countsFit, modeFits, phaseFits, stationFits, itemFitsAt, linkFits, wellFormed, stepFits, StepsFit}
+use Rattle.reset.specs.WellFormed.{registerFits, ofStation, countFits, timestampFits, modeFits, phaseFits, stationFits, itemFitsAt, linkFits, wellFormed, stepFits, StepsFit}
 use Rattle.reset.proofs.Views.{station-set, station-set-link}
 use Rattle.reset.proofs.StepLaws.{of-step}
 use Rattle.reset.proofs.Formed.{Formed, formed-of, counts-small, initial-well-formed, step-well-formed}
 use Rattle.causality.specs.HappenedBefore.{Accepted, withEntry, accepted, entryAt}
-use Rattle.steps.specs.Answers.{recordOf}
+use Rattle.steps.specs.Answers.{eventRecord}
 use Rattle.run_archive.specs.Claims.{InRange, AllInRange}
 use Rattle.reset.proofs.Cases.{clash}
 
 -- ---- from the tests of a well-formed state
 module _ (c : Config) where
   -- eight counts in range, and the phase
-  station-facts : (i : ℕ) (x : Station vector) → isStation c i ≡ true → stationFits c i x ≡ true → (countsFit c (c .t) (x .time) ≡ true) × (x .phase ≤ 999999)
+  station-facts : (i : ℕ) (x : Station vector) → isStation c i ≡ true → stationFits c i x ≡ true → (timestampFits c (c .t) (x .time) ≡ true) × (x .phase ≤ 999999)
   unfolding stationFits
   station-facts i x si h =
-      let p = both (countsFit c (ofStation c i (c .t)) (x .time)) _ h in
+      let p = both (timestampFits c (ofStation c i (c .t)) (x .time)) _ h in
       let q = both (phaseFits c i x) _ (both (modeFits c i x) _ (p .1) .1) in
-      let a : countsFit c (ofStation c i (c .t)) (x .time) ≡ true = p .0 in
+      let a : timestampFits c (ofStation c i (c .t)) (x .time) ≡ true = p .0 in
       let b : leb (x .phase) (ofStation c i 999999) ≡ true = q .0 in
       (rw si at a, leb-true _ _ (rw si at b))
 
@@ -48,15 +48,15 @@ module _ (c : Config) where
   unfolding linkFits
   first-fits i j w g q h =
       let l : List (Item vector) = message w g ∷ q in
-      both (countsFit c (c .t) w) _ (every-at (length l) (itemFitsAt c l) 0 (both (leb (length l) (places c i j)) _ h .1) (omega arith)) .1
+      both (timestampFits c (c .t) w) _ (every-at (length l) (itemFitsAt c l) 0 (both (leb (length l) (places c i j)) _ h .1) (omega arith)) .1
 
-  module _ (v : List ℕ) (h : countsFit c (c .t) v ≡ true) where
+  module _ (v : List ℕ) (h : timestampFits c (c .t) v ≡ true) where
     eight : length v ≡ 8
-    unfolding countsFit
+    unfolding timestampFits
     eight = eqb-true _ _ (both (eqb (length v) 8) _ h .0)
 
     count-at : (k : ℕ) → k < 8 → leb (getD v k 0) (ofStation c k (c .t)) ≡ true
-    unfolding countsFit
+    unfolding timestampFits
     count-at k l = every-at 8 (countFits c (c .t) v) k (both (eqb (length v) 8) _ h .1) l
 
     counts-known : clockFits (c .n) (c .t) v ≡ true
@@ -76,7 +76,7 @@ module _ (c : Config) (w : wellMade c ≡ true) (u : Rules c) where
     kind-small : k < 256
     peer-small : j < 256
     peer-fits : peerFits k i j ≡ true
-    peer-known : (g : ℕ) (x : Station vector) → peerKnown (c .n) (c .limits) (recordOf (entryOf k i j g x)) ≡ true
+    peer-known : (g : ℕ) (x : Station vector) → peerKnown (c .n) (c .limits) (eventRecord (entryOf k i j g x)) ≡ true
 
   own-peer : (i : ℕ) → Peer 1 i 255
   unfolding peerFits peerKnown

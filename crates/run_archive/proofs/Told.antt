@@ -8,7 +8,7 @@ use native.Mathlib.Omega.{arith}
 use native.Mathlib.Decide.{ℕ-discrete}
 use lib.ListN.{length, getD}
 use Rattle.clock.specs.Timestamp.{Less}
-use Rattle.clock.specs.Order.{verdictOf, Says}
+use Rattle.clock.specs.Order.{verdictOf, Related}
 use Rattle.clock.specs.declared.Verdict.{Verdict}
 use Rattle.clock.specs.declared.Verdict.the-variants.{Before, After, Same, Unordered}
 use Rattle.clock.proofs.OrderLaws.{verdict-exact}
@@ -30,7 +30,7 @@ use Rattle.causality.proofs.Trace.{Trace}
 use Rattle.causality.proofs.Order.{chain-exactly}
 use Rattle.causality.proofs.TraceOrder.{from-chain, clocked, by-timestamp}
 use Rattle.causality.proofs.Demand3.{run-trace}
-use Rattle.steps.specs.Answers.{recordOf}
+use Rattle.steps.specs.Answers.{eventRecord}
 use Rattle.run_archive.specs.Made.{archiveOf}
 use Rattle.run_archive.specs.Claims.{entriesOf, InRange, Archived, Beside, Verdicts, Tells, EveryArchive}
 use Rattle.run_archive.proofs.RangeLaws.{all-in-range}
@@ -40,7 +40,7 @@ use Rattle.reset.proofs.Cases.{by-dec}
 module _ (c : Config) (E : List Accepted) (range : (k : ℕ) → k < length E → InRange c (entryAt E k .entry)) (A : Archived c E)
     (by : (x y : ℕ) → x < length E → y < length E → phaseOf E x ≡ phaseOf E y → HappenedBefore E x y ↔ Less (timestampOf E x) (timestampOf E y))
     (one : (x y : ℕ) → x < length E → y < length E → phaseOf E x ≡ phaseOf E y → timestampOf E x ≡ timestampOf E y → x ≡ y) where
-  event-is : (k : ℕ) → k < length E → eventAt (archiveOf c E) k ≡ recordOf (entryAt E k .entry)
+  event-is : (k : ℕ) → k < length E → eventAt (archiveOf c E) k ≡ eventRecord (entryAt E k .entry)
   unfolding eventAt
   event-is k l = ap parseRecord (A .found k l) ∙ parsed-bytes c (entryAt E k) (range k l)
 
@@ -56,7 +56,7 @@ module _ (c : Config) (E : List Accepted) (range : (k : ℕ) → k < length E �
         let o = order-one-phase (archiveOf c E) x y (A .tested) (in-archive x xl) (in-archive y yl) (phase-is x xl ∙ p ∙ sym (phase-is y yl)) in
         rw (event-is x xl, event-is y yl) at o
 
-    exact : (v : Verdict) → (orderOf (archiveOf c E) x y ≡ Ordered v) ↔ Says v (timestampOf E x) (timestampOf E y)
+    exact : (v : Verdict) → (orderOf (archiveOf c E) x y ≡ Ordered v) ↔ Related v (timestampOf E x) (timestampOf E y)
     exact v =
         let d : length (timestampOf E x) ≡ 8 = range x xl .typed .eight in
         let e : length (timestampOf E y) ≡ 8 = range y yl .typed .eight in
@@ -65,7 +65,7 @@ module _ (c : Config) (E : List Accepted) (range : (k : ℕ) → k < length E �
               let k : Ordered (verdictOf (timestampOf E x) (timestampOf E y)) ≡ Ordered v = sym order ∙ h in
               let q : verdictOf (timestampOf E x) (timestampOf E y) ≡ v = cc in
               u .0 q,
-          λ (s : Says v (timestampOf E x) (timestampOf E y)). order ∙ ap Ordered (u .1 s),
+          λ (s : Related v (timestampOf E x) (timestampOf E y)). order ∙ ap Ordered (u .1 s),
         )
 
     verdicts : Verdicts (archiveOf c E) E x y

@@ -26,7 +26,7 @@ use Rattle.rules.specs.Setup.{blockConfig, headerOf}
 use Rattle.causality.specs.HappenedBefore.{Accepted, accepted, entryAt, phaseOf, HappenedBefore}
 use Rattle.area_calls.specs.Calls.{setupOn}
 use Rattle.area_calls.specs.Sound.{logOn}
-use Rattle.steps.specs.Answers.{recordOf}
+use Rattle.steps.specs.Answers.{eventRecord}
 use Rattle.run_archive.specs.Made.{bytesOfEntry, blockRecords, madeBlock, blocksFor, archiveOf}
 
 -- the accepted entries of a list of steps from the initial network
@@ -35,9 +35,9 @@ entriesOf c ps = accepted (log c (initial vector c) ps)
 
 -- ---- the records: of a record's types, each field in range, and nothing named that the header lacks
 pub record InRange (c : Config) (e : Entry) : Type 0 where
-  pub fits : recordFits (recordOf e) ≡ true
-  pub typed : Typed (recordOf e)
-  pub known : recordKnown (headerOf c) (c .limits) (recordOf e) ≡ true
+  pub fits : recordFits (eventRecord e) ≡ true
+  pub typed : Typed (eventRecord e)
+  pub known : recordKnown (headerOf c) (c .limits) (eventRecord e) ≡ true
 
 -- ---- the archive: the writers accept what it is made of, the test accepts it, and record k is entry k's
 pub record Archived (c : Config) (E : List Accepted) : Type 0 where

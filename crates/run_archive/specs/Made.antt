@@ -8,12 +8,12 @@ use Rattle.header.specs.Header.{imageHeader}
 use Rattle.entries.specs.Entries.{imageEntries}
 use Rattle.reset.specs.Config.{Config}
 use Rattle.rules.specs.Setup.{headerOf}
-use Rattle.steps.specs.Answers.{recordOf}
+use Rattle.steps.specs.Answers.{eventRecord}
 use Rattle.causality.specs.HappenedBefore.{Accepted}
 
 -- the 32 bytes of an accepted entry's record
 unfoldable pub bytesOfEntry : Accepted → List ℕ
-bytesOfEntry x = imageRecord (recordOf (x .entry))
+bytesOfEntry x = imageRecord (eventRecord (x .entry))
 
 -- the records' bytes of a list of accepted entries, in list order
 unfoldable pub recordsOf : List Accepted → List ℕ

@@ -22,7 +22,7 @@ use Rattle.header.proofs.Laws.{table-at}
 use Rattle.reset.specs.Reach.{limit, linked}
 use Rattle.reset.specs.Config.{isStation, neighbours, limitAt, allowanceAt}
 use Rattle.reset.specs.Steps.{isNormal}
-use Rattle.reset.specs.WellFormed.{countsFit, sentFitsTo, sentFits, marksFitFrom, marksFit, stationFits}
+use Rattle.reset.specs.WellFormed.{timestampFits, sentFitsTo, sentFits, marksFitFrom, marksFit, stationFits}
 use Rattle.rules.specs.Setup.{blockConfig}
 use Rattle.station.specs.Image.{byteAt, markAt, modeOf, parseStation}
 use Rattle.station.specs.Test.{sentWithinAt, markBound, marksWithinAt, markFits, stationBytesFit, stationTest}
@@ -94,7 +94,7 @@ module _ (head : List ℕ) (i : ℕ) (h : i < 8) (l : List ℕ) where
       && (leb (numAt 4 l 40) (cond (ltb i (getD head 1 0)) 999999 0)
       && (leb (numAt 2 l 44) (numAt 2 head (16 + i * 2))
       && (every 8 (sentWithinAt head (32 + i * 8) l) && every 8 (marksWithinAt head (32 + i * 8) l))))))
-  unfolding stationTest stationBytesFit stationFits countsFit fit isStation allowanceAt parseStation
+  unfolding stationTest stationBytesFit stationFits timestampFits fit isStation allowanceAt parseStation
   test-is =
       gather (leb (getD l 46 0) 2) (every 16 (markFits l)) (fit (getD head 1 0) (cond (ltb i (getD head 1 0)) (numAt 2 head 2) 0) (numsAt 2 8 l 0))
       (ltb i (getD head 1 0) || isNormal (modeOf (getD l 46 0))) (leb (numAt 4 l 40) (cond (ltb i (getD head 1 0)) 999999 0))

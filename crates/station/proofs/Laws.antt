@@ -21,7 +21,7 @@ use Rattle.reset.specs.Reach.{limit}
 use Rattle.reset.proofs.ConfigLaws.{shape}
 use Rattle.reset.specs.Clock.{vector}
 use Rattle.reset.specs.State.{Mode, normal, mute, standBy, Station}
-use Rattle.reset.specs.WellFormed.{ofStation, countFits, countsFit, modeFits, phaseFits, ownFits, sentFitsTo, sentFits, marksFit, stationFits}
+use Rattle.reset.specs.WellFormed.{ofStation, countFits, timestampFits, modeFits, phaseFits, ownFits, sentFitsTo, sentFits, marksFit, stationFits}
 use Rattle.station.specs.Image.{markByte, sentOf, marksOf, modeByte, imageStation, byteAt, markAt, modeOf, parseStation, Ranged}
 use Rattle.station.specs.Test.{markFits, stationBytesFit, stationTest}
 
@@ -186,11 +186,11 @@ module _ (x : Station vector) where
 -- ---- what is in range
 -- the test of a record, part by part
 pub fits-parts : (c : Config) (i : ℕ) (x : Station vector) → stationFits c i x ≡ true
-    → (countsFit c (ofStation c i (c .t)) (x .time) ≡ true) × (leb (x .phase) (ofStation c i 999999) ≡ true) × (leb (x .own) (allowanceAt c (x .phase) i) ≡ true)
+    → (timestampFits c (ofStation c i (c .t)) (x .time) ≡ true) × (leb (x .phase) (ofStation c i 999999) ≡ true) × (leb (x .own) (allowanceAt c (x .phase) i) ≡ true)
     × (sentFits c i x ≡ true) × (marksFit c i x ≡ true)
 unfolding stationFits
 fits-parts c i x h =
-    let a = both (countsFit c (ofStation c i (c .t)) (x .time)) _ h in
+    let a = both (timestampFits c (ofStation c i (c .t)) (x .time)) _ h in
     let b = both (modeFits c i x) _ (a .1) in
     let d = both (phaseFits c i x) _ (b .1) in
     let e = both (ownFits c i x) _ (d .1) in
@@ -222,7 +222,7 @@ module _ (c : Config) (w : wellMade c ≡ true) (i : ℕ) (b : i < 8) (x : Stati
       leb-true _ 65535 (every-at 8 (allowanceFits (c .allowances)) i (both (eqb (length (c .allowances)) 8) _ (q .0) .1) b)
 
   pub fits-ranged : Ranged x
-  unfolding countsFit sentFits marksFit allowanceAt limitAt
+  unfolding timestampFits sentFits marksFit allowanceAt limitAt
   fits-ranged =
       let s = shape c w in
       let p = fits-parts c i x h in

@@ -15,7 +15,7 @@ use Rattle.reset.specs.Clock.{vector}
 use Rattle.reset.specs.State.{Item, message, Station, State, stationAt, linkAt, doneSeen, sentTo, setStation, setLink}
 use Rattle.reset.specs.Steps.{enter, send, recv, start, modeAfter, refuse, guard, inBounds, bounded, doEnter, doSend, doReceive, doMark, doStart, settle, maySend, isNormal, beginReset, turn, receive, step}
 use Rattle.reset.proofs.Views.{station-set, station-set-link, link-set-row}
-use Rattle.reset.specs.WellFormed.{countsFit, itemFits, itemFitsAt, linkFits, wellFormed}
+use Rattle.reset.specs.WellFormed.{timestampFits, itemFits, itemFitsAt, linkFits, wellFormed}
 use Rattle.reset.proofs.Formed.{Formed, formed-of, counts-small, station-counts, formed-bounds, Bounds}
 use Rattle.reset_rules.specs.Turn.{Turning, turned, started, putItems}
 use Rattle.reset_rules.proofs.TurnLaws.{set-link-set, turn-set, start-set}
@@ -195,7 +195,7 @@ module _ (c : Config) (s : State vector) (w : wellFormed c s ≡ true) where
               let p = both (leb (length (linkAt s j i)) (places c j i)) _ f in
               let a : itemFits c (message v g) ≡ true
               = every-at (length (message v g ∷ q)) (itemFitsAt c (message v g ∷ q)) 0 (rw e at (p .1)) (omega arith) in
-              counts-small c (c .t) v (both (countsFit c (c .t) v) _ a .0) k l
+              counts-small c (c .t) v (both (timestampFits c (c .t) v) _ a .0) k l
 
           bounded-by : inBounds c (doReceive i j v g q s .after) ≡ leb (suc (getD (stationAt s i .time) i 0)) (c .t)
           bounded-by = receive-bounds c s inside i (station-small i h) j v g q (neighbour-small i j n) e message-small (not-itself c net i j n)

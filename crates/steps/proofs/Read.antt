@@ -24,7 +24,7 @@ use Rattle.station.specs.Image.{parseStation}
 use Rattle.reset.proofs.Formed.{formed-bounds}
 use Rattle.step_outcomes.proofs.Outcome.{station-small, neighbour-small}
 use Rattle.area.specs.Layout.{image, stationBytes, linkBytes, configAt, stateAt, test}
-use Rattle.area.proofs.Formed.{tested, formed, formed-fits, station-read, imaged}
+use Rattle.area.proofs.Formed.{tested, formed, formed-fits, station-read, formed-imaged}
 use Rattle.area_edit.proofs.PartLaws.{link-held}
 use Rattle.steps.specs.Answers.{steppedOf, noRecord}
 use Rattle.steps.specs.Formed.{Does}
@@ -141,4 +141,4 @@ pub count-is : {a : List ℕ} → Passed a → (i j : ℕ) → i < 8 → j < 8 �
 count-is {a} k i j il jl = link-held (configAt a) (stateAt a) i il (k .is) j jl
 
 pub count-most : {a : List ℕ} → Passed a → (i j : ℕ) → i < 8 → j < 8 → getD (linkBytes a (i * 8 + j)) 0 0 ≤ 34
-count-most {a} k i j il jl = omega (arith, count-is k i j il jl, imaged (configAt a) (stateAt a) (k .formed) .links i j il jl .most)
+count-most {a} k i j il jl = omega (arith, count-is k i j il jl, formed-imaged (configAt a) (stateAt a) (k .formed) .links i j il jl .most)

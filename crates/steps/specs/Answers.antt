@@ -14,8 +14,8 @@ modeCode mute = Mute
 modeCode standBy = StandBy
 
 -- the record of an accepted entry
-abbrev pub recordOf : Entry → Record
-recordOf e = record { kind = e .kind; station = e .station; peer = e .peer; phase = e .phase; register = e .register; counts = e .counts }
+abbrev pub eventRecord : Entry → Record
+eventRecord e = record { kind = e .kind; station = e .station; peer = e .peer; phase = e .phase; register = e .register; counts = e .counts }
 
 -- what stands in the record's place where there is no entry
 abbrev pub noRecord : Record
@@ -24,5 +24,5 @@ noRecord = record { kind = 0; station = 0; peer = 0; phase = 0; register = 0; co
 -- a refusal with its number; an entry with its record; mode and phase after
 abbrev pub steppedOf : Answer → Stepped
 steppedOf (refused k) = record { answer = Refused k; event = noRecord }
-steppedOf (entry e) = record { answer = Entered; event = recordOf e }
+steppedOf (entry e) = record { answer = Entered; event = eventRecord e }
 steppedOf (modeAfter i m p) = record { answer = InMode (modeCode m) p; event = noRecord }

@@ -6,7 +6,7 @@ use lib.Dec.{eqb, leb}
 use lib.ListN.{length, getD}
 use Rattle.clock.specs.Range.{lastPhase}
 use Rattle.codec.specs.Every.{every}
-use Rattle.reset_rules.specs.Slots.{itemOf}
+use Rattle.reset_rules.specs.Slots.{controlOf}
 use Rattle.reset_rules.specs.declared.Turned.{Turned}
 use Rattle.area.specs.Layout.{linkBytes}
 
@@ -20,7 +20,7 @@ roomBytes a row i k = every 8 (λ (j : ℕ). eqb (getD row j 0) 0 || leb (getD (
 
 -- how many control items go on every link out
 abbrev pub items : Turned → ℕ
-items t = length (itemOf (t .first) ++ itemOf (t .second))
+items t = length (controlOf (t .first) ++ controlOf (t .second))
 
 -- after the rules nothing is beyond its bound: the phase, and the room on the links out
 unfoldable pub inBoundsAfter : List ℕ → List ℕ → ℕ → Turned → Bool

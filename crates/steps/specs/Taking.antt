@@ -10,7 +10,7 @@ use Rattle.reset.specs.State.{Item, Station, State, stationAt, linkAt, setStati
 use Rattle.reset.specs.Steps.{recv, modeAfter, bounded, doMark, receive}
 use Rattle.station.specs.View.{modeView, stationView}
 use Rattle.reset_rules.specs.Turn.{putItems}
-use Rattle.reset_rules.specs.Slots.{itemOf}
+use Rattle.reset_rules.specs.Slots.{controlOf}
 use Rattle.reset_rules.specs.declared.Turned.{Turned}
 use Rattle.area.specs.Layout.{image, linkBytes, configAt, stateAt, test}
 use Rattle.steps.specs.Answers.{steppedOf}
@@ -21,7 +21,7 @@ use Rattle.steps.specs.declared.answer.Stepped.{Stepped}
 pub record Settles (m : List (List ℕ)) (i : ℕ) (t : Turned) (a : List ℕ) (r : Stepped) (b : List ℕ) : Type 0 where
   pub answer : r ≡ steppedOf (modeAfter i (modeView (t .station .mode)) (t .station .phase))
   pub area : (c : Config) (s : State vector) → c .limits ≡ m → a ≡ image c s
-      → b ≡ image c (putItems c (setStation s i (stationView (t .station))) i (itemOf (t .first) ++ itemOf (t .second)))
+      → b ≡ image c (putItems c (setStation s i (stationView (t .station))) i (controlOf (t .first) ++ controlOf (t .second)))
 
 -- what is known of an area before station i takes the first item of the link from its neighbour j
 pub record Holds (a : List ℕ) (i j : ℕ) : Type 0 where

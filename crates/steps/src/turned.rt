@@ -3,7 +3,7 @@ ghost use mathlib.Core.Path.{_≡_};
 ghost use Prim.Native.Nat.{_≤_, _<_};
 ghost use lib.ListN.{length};
 ghost use Rattle.area.specs.Layout.{areaSize};
-ghost use Rattle.reset_rules.specs.Slots.{itemOf};
+ghost use Rattle.reset_rules.specs.Slots.{controlOf};
 ghost use Rattle.area_edit.specs.Room.{Roomy};
 ghost use Rattle.steps.specs.Room.{placesOf, roomBytes, items as Items, inBoundsAfter};
 ghost use Rattle.steps.specs.Taking.{Settles};
@@ -23,7 +23,7 @@ pub fn places(limit: u8) -> u32
 
 // One more where there is a control item.
 fn weight(kind: u8) -> u32
-    ensures { λ r. ⌜ (r ≡ length (itemOf kind)) × (r ≤ 1) ⌝ }
+    ensures { λ r. ⌜ (r ≡ length (controlOf kind)) × (r ≤ 1) ⌝ }
 {
     if (kind == link::RESET_REQ) | (kind == link::RESET_DONE) {
         return 1;

@@ -28,7 +28,7 @@ use Rattle.network.proofs.Laws.{done}
 use Rattle.turnover_settings.specs.declared.Run.{Run}
 use Rattle.turnover_settings.specs.declared.Stage.{Stage}
 use Rattle.turnover_settings.specs.declared.Stage.the-variants.{Opening, Setting, Stepping, Ended}
-use Rattle.turnover_settings.specs.Settings.{blockOf, setUp}
+use Rattle.turnover_settings.specs.Settings.{settingsBlock, setUp}
 use Rattle.turnover_settings.proofs.Stage.{the-type as stages}
 use Rattle.turnover_input.specs.declared.command.Command.{Command}
 use Rattle.turnover_input.specs.declared.command.Command.the-variants.{Net, Allow, Link, Enter, Send, Recv, Start, Bad}
@@ -48,15 +48,15 @@ setup-ready block a b h =
     let c = blockConfig block in
     rw (p .2) (image-passes c (initial vector c) (initial-well-formed c (accepted-well-made block b (p .0)) (p .1)))
 
-pub set-up-ready : (block a : List ℕ) (run : Run) → AreBytes (blockOf block run .buffer) → setUp block a run .answer ≡ 0 → test (setUp block a run .buffer) ≡ true
+pub set-up-ready : (block a : List ℕ) (run : Run) → AreBytes (settingsBlock block run .buffer) → setUp block a run .answer ≡ 0 → test (setUp block a run .buffer) ≡ true
 unfolding setUp
-set-up-ready block a run b h = go (eqb (blockOf block run .answer) 0) refl h
+set-up-ready block a run b h = go (eqb (settingsBlock block run .answer) 0) refl h
   where
     W : Bool → Written
-    W x = cond x (setupOn (blockOf block run .buffer) a) (record { answer = blockOf block run .answer; buffer = a })
+    W x = cond x (setupOn (settingsBlock block run .buffer) a) (record { answer = settingsBlock block run .answer; buffer = a })
 
-    go : (x : Bool) → eqb (blockOf block run .answer) 0 ≡ x → W x .answer ≡ 0 → test (W x .buffer) ≡ true
-    go true e h = setup-ready (blockOf block run .buffer) a b h
+    go : (x : Bool) → eqb (settingsBlock block run .answer) 0 ≡ x → W x .answer ≡ 0 → test (W x .buffer) ≡ true
+    go true e h = setup-ready (settingsBlock block run .buffer) a b h
     go false e h = absurd (eqb-false _ 0 e h)
 
 -- in any stage

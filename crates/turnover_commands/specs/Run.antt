@@ -20,7 +20,7 @@ use Rattle.turnover_settings.specs.declared.Run.{Run}
 use Rattle.turnover_commands.specs.declared.Reply.{Reply}
 use Rattle.turnover_settings.specs.declared.Stage.{Stage}
 use Rattle.turnover_settings.specs.declared.Stage.the-variants.{Opening, Setting, Stepping, Ended}
-use Rattle.turnover_settings.specs.Settings.{namedRun, stagedRun, numberedRun, allowedRun, linkSet, blockOf, setUp}
+use Rattle.turnover_settings.specs.Settings.{namedRun, stagedRun, numberedRun, allowedRun, linkSet, settingsBlock, setUp}
 
 -- where a run stands: its stage and settings, the header block in the making, where the limits stand, and the state area
 pub record Standing : Type 0 where
@@ -76,7 +76,7 @@ stepping s Bad = badLine s
 -- ---- setup
 -- where a run stands after setup, in a stage
 abbrev pub setUpIn : Stage → Standing → Standing
-setUpIn stage s = standing (stagedRun (s .run) stage) (blockOf (s .block) (s .run) .buffer) (setUp (s .block) (s .area) (s .run) .buffer)
+setUpIn stage s = standing (stagedRun (s .run) stage) (settingsBlock (s .block) (s .run) .buffer) (setUp (s .block) (s .area) (s .run) .buffer)
 
 -- setup, and what follows where it is accepted; a refused one is printed, and ends the run
 abbrev pub withSetup : Standing → Telling → Telling

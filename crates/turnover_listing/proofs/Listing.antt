@@ -12,7 +12,7 @@ use Rattle.codec.specs.Splice.{splice}
 use Rattle.codec.specs.Written.{Written, wrote}
 use Rattle.codec.proofs.BlankLaws.{blank-length}
 use Rattle.codec.proofs.SpliceLaws.{splice-all}
-use Rattle.header.specs.Header.{rowFits, limitsFit, headerFits, tableAt, imageHeader, wellMadeHeader, writeHeader}
+use Rattle.header.specs.Header.{rowInRange, limitsInRange, headerFits, tableAt, imageHeader, wellMadeHeader, writeHeader}
 use Rattle.header.proofs.Laws.{image-length}
 use Rattle.decimal.specs.Ascii.{ascii}
 use Rattle.decimal.specs.Decimal.{decimalIn, decimal, digit}
@@ -38,7 +38,7 @@ use Rattle.area_calls.specs.Calls.{stepOn, setupOn}
 use Rattle.area_calls.proofs.Demand3.{step-on-image}
 use Rattle.turnover_settings.specs.declared.Run.{Run}
 use Rattle.turnover_settings.specs.declared.Stage.the-variants.{Setting, Stepping}
-use Rattle.turnover_settings.specs.Settings.{limitSet, linkSet, blockOf, setUp}
+use Rattle.turnover_settings.specs.Settings.{limitSet, linkSet, settingsBlock, setUp}
 use Rattle.turnover_commands.specs.Run.{Standing, Telling, standing, stepText, lastNumber, stepMade, obeyed}
 use Rattle.turnover_session.specs.Turnover.{transcript, beginning, turnover}
 use Rattle.turnover_listing.specs.Listing.{listingInput, listingOutput}
@@ -90,7 +90,7 @@ module _ (n t : ℕ) (v b a : List ℕ) where
   abbrev behind : List ℕ → List ℕ → Standing
   behind h x = standing (record { stage = Stepping; n = n; t = t; allowances = v; number = 0 }) h x
 
-  first-line : (h x : List ℕ) → blockOf b (before .run) ≡ wrote h → setUp b a (before .run) ≡ wrote x → (p : Step)
+  first-line : (h x : List ℕ) → settingsBlock b (before .run) ≡ wrote h → setUp b a (before .run) ≡ wrote x → (p : Step)
       → obeyed before (commandOf p) ≡ obeyed (behind h x) (commandOf p)
   first-line h x e f (enter i g) = rw (e, f)
   first-line h x e f (send i j g) = rw (e, f)
@@ -117,14 +117,14 @@ unfolding limitSet blank
 block-long = refl
 
 fields-fit : headerFits (headerOf pair) (pair .limits) ≡ true
-unfolding headerFits limitsFit rowFits every
+unfolding headerFits limitsInRange rowInRange every
 fields-fit = refl
 
 abbrev head : List ℕ
 head = imageHeader (headerOf pair) (pair .limits)
 
-made : blockOf block setting ≡ wrote head
-unfolding blockOf writeHeader
+made : settingsBlock block setting ≡ wrote head
+unfolding settingsBlock writeHeader
 made = rw (table-is, fields-fit, block-long) (ap wrote (splice-all block head (image-length (headerOf pair) (pair .limits) ∙ sym block-long)))
 
 abbrev accepted : (wellMade pair ≡ true) × (networkRules pair ≡ true)

@@ -54,12 +54,12 @@ abbrev pub settingsOf : Run → Header
 settingsOf run = record { n = run .n; t = run .t; allowances = run .allowances }
 
 -- the header block of the settings and of the limits so far, or 1 where one is out of its range
-unfoldable pub blockOf : List ℕ → Run → Written
-blockOf block run = writeHeader (settingsOf run) (tableAt 8 block 32) block
+unfoldable pub settingsBlock : List ℕ → Run → Written
+settingsBlock block run = writeHeader (settingsOf run) (tableAt 8 block 32) block
 
 -- setup by the settings, as the header block that they make
 unfoldable pub setUp : List ℕ → List ℕ → Run → Written
 setUp block area run =
-    cond (eqb (blockOf block run .answer) 0)
-    (setupOn (blockOf block run .buffer) area)
-    (record { answer = blockOf block run .answer; buffer = area })
+    cond (eqb (settingsBlock block run .answer) 0)
+    (setupOn (settingsBlock block run .buffer) area)
+    (record { answer = settingsBlock block run .answer; buffer = area })

@@ -2,7 +2,7 @@
 use header::Header;
 ghost use mathlib.Core.Path.{_≡_};
 ghost use lib.ListN.{length};
-ghost use Rattle.turnover_settings.specs.Settings.{openedRun, namedRun, stagedRun, numberedRun, allowedRun, allowanceSet, limitSet, linkSet, settingsOf, blockOf, setUp};
+ghost use Rattle.turnover_settings.specs.Settings.{openedRun, namedRun, stagedRun, numberedRun, allowedRun, allowanceSet, limitSet, linkSet, settingsOf, settingsBlock, setUp};
 
 // Where a run stands: before `net`, before setup, after setup, and behind a refused setup.
 pub enum Stage {
@@ -144,7 +144,7 @@ fn settings(run: Run) -> Header
 pub fn set_up(block: &mut [u8], area: &mut [u8], run: Run) -> u8
     requires { ⌜ length (now block) ≡ 512 ⌝ }
     ensures { λ r. ⌜ r ≡ setUp (now (block .entry)) (now (area .entry)) run .answer ⌝ }
-    ensures { λ _. ⌜ now (block .exit) ≡ blockOf (now (block .entry)) run .buffer ⌝ }
+    ensures { λ _. ⌜ now (block .exit) ≡ settingsBlock (now (block .entry)) run .buffer ⌝ }
     ensures { λ _. ⌜ now (area .exit) ≡ setUp (now (block .entry)) (now (area .entry)) run .buffer ⌝ }
 {
     let limits = header::load_limits(block);

@@ -8,12 +8,12 @@ use borrow.Author.Needs.{needs}
 use borrow.Author.Tests.{not-true, not-false}
 use Rattle.codec.specs.Every.{every}
 use Rattle.codec.proofs.EveryLaws.{every-none, every-more, every-fails}
-use Rattle.header.specs.Header.{rowFits, limitsFit}
+use Rattle.header.specs.Header.{rowInRange, limitsInRange}
 use Rattle.header.proofs.limits_fit.Statement.{statement}
 use Rattle.header.proofs.limits_fit.Tie as tie
 
 abbrev Inv-loop : tie.InvT-loop
-Inv-loop limits i₀ i = (i ≤ 8) × (every i (λ (k : ℕ). rowFits (getD limits k [])) ≡ true)
+Inv-loop limits i₀ i = (i ≤ 8) × (every i (λ (k : ℕ). rowInRange (getD limits k [])) ≡ true)
 
 abbrev μ-loop : tie.MeasureT-loop
 μ-loop limits i₀ i = 8 - i
@@ -22,14 +22,14 @@ loop-holds : tie.Need-loop-holds Inv-loop μ-loop
 loop-holds c = (omega arith, every-none _)
 
 returns : tie.Need-returns Inv-loop μ-loop
-unfolding limitsFit
-returns c = sym (every-fails 8 (λ (i : ℕ). rowFits (getD (c .before .before .before .before .before .args .t1) i [])) (c .before .before .before .before .loop .i) (omega arith) (sym (c .before .row-fits .ensures) ∙ not-true _ (c .if1 .taken)))
+unfolding limitsInRange
+returns c = sym (every-fails 8 (λ (i : ℕ). rowInRange (getD (c .before .before .before .before .before .args .t1) i [])) (c .before .before .before .before .loop .i) (omega arith) (sym (c .before .row-fits .ensures) ∙ not-true _ (c .if1 .taken)))
 
 loop-again : tie.Need-loop-again Inv-loop μ-loop
 loop-again c = (omega arith, every-more _ _ (c .before .before .before .before .loop .inv .1) (sym (c .before .row-fits .ensures) ∙ not-false _ (c .if1 .left)))
 
 returns-2 : tie.Need-returns-2 Inv-loop μ-loop
-unfolding limitsFit
+unfolding limitsInRange
 returns-2 c = let e : c .before .loop .i ≡ 8 = omega arith in sym (rw e at (c .before .loop .inv .1))
 
 pub limits-fit-spec : {M : Type 1} → statement M

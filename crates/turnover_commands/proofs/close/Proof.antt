@@ -4,7 +4,7 @@ use native.Mathlib.Omega.{arith}
 use borrow.Author.Tests.{eq-eqb, ne-eqb}
 use borrow.Author.Needs.{needs}
 use Rattle.turnover_output.proofs.TextAtLaws.{text-none}
-use Rattle.turnover_settings.specs.Settings.{blockOf}
+use Rattle.turnover_settings.specs.Settings.{settingsBlock}
 use Rattle.codec.specs.Num.{AreBytes}
 use Rattle.turnover_commands.proofs.Laws.{closed-stage, closed-silent, set-up-ready}
 use Rattle.turnover_commands.proofs.close.Statement.{statement}
@@ -23,7 +23,7 @@ returns-2 c =
     let o = c .before .before .before .before .before .before in
     let u = o .set-up .ensures in
     let a = o .before .before .before .before .before .before .before .before .args in
-    let y : AreBytes (blockOf (now (a .block)) (a .run) .buffer) = rw (← u .1 .0) (λ k. omega (arith, c .before .before .before .before .slice-known4 .given k)) in (
+    let y : AreBytes (settingsBlock (now (a .block)) (a .run) .buffer) = rw (← u .1 .0) (λ k. omega (arith, c .before .before .before .before .slice-known4 .given k)) in (
       closed-stage _ _ (o .before .before .before .enum-told .given .1) (rw (← u .0, ← u .1 .0, ← u .1 .1, eq-eqb _ 0 (c .before .if1 .left)) (record { run = c .staged .ensures; block = refl; area = refl; text = text-none (omega arith); short = omega arith })),
       rw (c .staged .ensures, u .1 .1) (set-up-ready (now (a .block)) (now (a .area)) (a .run) y (sym (u .0) ∙ c .before .if1 .left)),
     )

@@ -3,7 +3,7 @@ use denote.Ref.{now}
 use native.Mathlib.Omega.{arith}
 use borrow.Author.Tests.{eq-eqb, ne-eqb}
 use borrow.Author.Needs.{needs}
-use Rattle.turnover_settings.specs.Settings.{blockOf}
+use Rattle.turnover_settings.specs.Settings.{settingsBlock}
 use Rattle.codec.specs.Num.{AreBytes}
 use Rattle.turnover_commands.proofs.Laws.{set-up-ready, ready-in}
 use Rattle.turnover_commands.proofs.first.Statement.{statement}
@@ -22,7 +22,7 @@ stepping-requires c κs =
     let o = c .before .before .before .before .before .before .before .before in
     let u = o .set-up .ensures in
     let a = o .before .before .before .before .before .before .args in
-    let y : AreBytes (blockOf (now (a .block)) (a .run) .buffer) = rw (← u .1 .0) (λ k. omega (arith, c .before .before .before .before .before .before .slice-known4 .given k)) in
+    let y : AreBytes (settingsBlock (now (a .block)) (a .run) .buffer) = rw (← u .1 .0) (λ k. omega (arith, c .before .before .before .before .before .before .slice-known4 .given k)) in
     (search needs, rw (u .1 .1) (set-up-ready (now (a .block)) (now (a .area)) (a .run) y (sym (u .0) ∙ c .before .before .before .if1 .left)))
 
 returns-2 : tie.Need-returns-2

@@ -4,7 +4,7 @@ use native.Mathlib.Omega.{arith}
 use lib.ListN.{length}
 use Rattle.area_edit.proofs.ControlLaws.{items-one, items-none, less-room}
 use Rattle.link.specs.Image.{itemView}
-use Rattle.reset_rules.specs.Slots.{itemOf}
+use Rattle.reset_rules.specs.Slots.{controlOf}
 use Rattle.reset_rules.specs.Turn.{putItems}
 use Rattle.area.specs.Layout.{image}
 use borrow.Author.Needs.{needs}
@@ -12,7 +12,7 @@ use Rattle.area_edit.proofs.controls.put_control.Statement.{statement}
 use Rattle.area_edit.proofs.controls.put_control.Tie as tie
 
 -- where the control item is made
-one : (c : tie.After-control) → itemOf (c .before .before .before .before .args .kind) ≡ itemView (c .control .result) ∷ []
+one : (c : tie.After-control) → controlOf (c .before .before .before .before .args .kind) ≡ itemView (c .control .result) ∷ []
 one c = items-one _ (c .control .result) (c .before .before .if1 .taken) (c .control .ensures .0)
 
 put-all-requires : tie.Need-put-all-requires

@@ -5,7 +5,7 @@ use lib.ListN.{length-append}
 use Rattle.reset.specs.Clock.{vector}
 use Rattle.reset.specs.State.{Item}
 use Rattle.area_edit.proofs.ControlLaws.{less-room, room-after}
-use Rattle.reset_rules.specs.Slots.{itemOf}
+use Rattle.reset_rules.specs.Slots.{controlOf}
 use Rattle.reset_rules.proofs.TurnLaws.{put-items}
 use Rattle.area.specs.Layout.{image}
 use borrow.Author.Needs.{needs}
@@ -14,10 +14,10 @@ use Rattle.area_edit.proofs.controls.put_controls.Tie as tie
 
 module _ (g : tie.Start) where
   abbrev first : List (Item vector)
-  first = itemOf (g .args .first)
+  first = controlOf (g .args .first)
 
   abbrev second : List (Item vector)
-  second = itemOf (g .args .second)
+  second = controlOf (g .args .second)
 
 put-control-requires : tie.Need-put-control-requires
 put-control-requires c κs = let g = c .before .before in (g .pre .0, less-room _ _ (omega (arith, length-append (first g) (second g))) (g .pre .1))

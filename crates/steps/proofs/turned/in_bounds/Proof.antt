@@ -6,7 +6,7 @@ use native.Mathlib.Omega.{arith}
 use lib.Dec.{leb}
 use lib.ListN.{length, length-append}
 use denote.Ref.{now}
-use Rattle.reset_rules.specs.Slots.{itemOf}
+use Rattle.reset_rules.specs.Slots.{controlOf}
 use Rattle.steps.specs.Room.{roomBytes, inBoundsAfter}
 use borrow.Author.Needs.{needs}
 use Rattle.steps.proofs.turned.in_bounds.Statement.{statement}
@@ -17,7 +17,7 @@ unfolding inBoundsAfter
 returns c =
     let g = c .before .before .before .before .before .before .args in
     let t = g .t in
-    let e : c .before .before .weight .result + c .before .weight2 .result ≡ length (itemOf (t .first) ++ itemOf (t .second)) = omega (arith, length-append (itemOf (t .first)) (itemOf (t .second)), c .before .before .weight .ensures .0, c .before .weight2 .ensures .0) in
+    let e : c .before .before .weight .result + c .before .weight2 .result ≡ length (controlOf (t .first) ++ controlOf (t .second)) = omega (arith, length-append (controlOf (t .first)) (controlOf (t .second)), c .before .before .weight .ensures .0, c .before .weight2 .ensures .0) in
     ap (λ (b : Bool). leb (t .station .phase) 999999 && b) (c .room .ensures ∙ ap (roomBytes (now (g .area)) (g .row) (g .i)) e)
 
 pub in-bounds-spec : {M : Type 1} → statement M
