@@ -13,6 +13,11 @@ use Rattle.steps.specs.declared.answer.Stepped.{Stepped}
 use Rattle.area_calls.specs.Calls.{stepOn}
 use Rattle.network.specs.Answers.{Steps}
 
+-- a step over an area that passed its test is the call
+pub done : (p : Step) (a : List ℕ) (r : Stepped) (d : List ℕ) → test a ≡ true → Does p a r d → Steps p a r d
+unfolding stepOn
+done p a r d h f = record { answer = rw h (f .answer); area = rw h (f .area) }
+
 -- b is what the code's test of area a gave
 module _ (a : List ℕ) {b : Bool} (e : b ≡ test a) where
   pub passes : not b ≡ false → test a ≡ true
@@ -22,6 +27,5 @@ module _ (a : List ℕ) {b : Bool} (e : b ≡ test a) where
   unfolding stepOn
   refused h f = let z : test a ≡ false = sym e ∙ not-true b h in record { answer = rw z f; area = rw z }
 
-  pub done : {p : Step} {r : Stepped} {d : List ℕ} → not b ≡ false → Does p a r d → Steps p a r d
-  unfolding stepOn
-  done h f = let z = passes h in record { answer = rw z (f .answer); area = rw z (f .area) }
+  pub stepped : {p : Step} {r : Stepped} {d : List ℕ} → not b ≡ false → Does p a r d → Steps p a r d
+  stepped h f = done _ a _ _ (passes h) f

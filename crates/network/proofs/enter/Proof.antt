@@ -1,4 +1,4 @@
-use Rattle.network.proofs.Laws.{passes, refused, done}
+use Rattle.network.proofs.Laws.{passes, refused, stepped}
 use borrow.Author.Needs.{needs}
 use Rattle.network.proofs.enter.Statement.{statement}
 use Rattle.network.proofs.enter.Tie as tie
@@ -10,4 +10,4 @@ enter-spec =
     (λ c κs. search needs) (λ c κs. search needs) (λ c. search needs)
     (λ c. refused _ (c .before .before .well-formed .ensures) (c .before .if1 .taken) (c .refused .ensures))
     (λ c κs. passes _ (c .before .before .well-formed .ensures) (c .before .if1 .left)) (λ c. search needs)
-    (λ c. let o = c .before .before .before .before in done _ (o .before .well-formed .ensures) (o .if1 .left) (c .before .before .enter .ensures)))
+    (λ c. let o = c .before .before .before .before in stepped _ (o .before .well-formed .ensures) (o .if1 .left) (c .before .before .enter .ensures)))
