@@ -57,50 +57,28 @@ module _ {a : List ℕ} (k : Passed a) where
   pub made : wellMade (configAt a) ≡ true
   made = both (wellMade (configAt a)) _ (formed-of (configAt a) (stateAt a) (k .formed) .accepted) .0
 
-  pub n-small : configAt a .n ≤ 8
-  n-small = shape (configAt a) made .small
-
   pub t-small : configAt a .t ≤ 65535
   t-small = shape (configAt a) made .ceiling
-
-  pub allowance-small : {h : Header} → h ≡ headerOf (configAt a) → (i : ℕ) → i < 8 → getD (h .allowances) i 0 ≤ 65535
-  unfolding wellMade allowancesFit
-  allowance-small e i l =
-      let p = both (sizeFits (configAt a .n) (configAt a .t)) _ made in
-      let q = both (allowancesFit (configAt a .allowances)) _ (p .1) in
-      let r = both (eqb (length (configAt a .allowances)) 8) _ (q .0) in
-      rw e (leb-true _ _ (every-at 8 (allowanceFits (configAt a .allowances)) i (r .1) l))
-
-  pub allowance-is : {h : Header} → h ≡ headerOf (configAt a) → (p i : ℕ) → allowanceAt (configAt a) p i ≡ getD (h .allowances) i 0
-  unfolding allowanceAt
-  allowance-is e p i = rw e
 
   pub phase-most : (i : ℕ) → i < 8 → stationAt (stateAt a) i .phase ≤ 999999
   phase-most i l = leb-true (stationAt (stateAt a) i .phase) 999999 (formed-bounds (configAt a) (stateAt a) (k .formed) .phases i l)
 
--- ---- a station of it
+  -- the record of a station, and the count of a link, as they are read
+  pub station-is : (i : ℕ) → i < 8 → {x : Station vector} → x ≡ parseStation (stationBytes a i) → stationAt (stateAt a) i ≡ x
+  station-is i l e = station-read a i l ∙ sym e
+
+  pub count-is : (i j : ℕ) → i < 8 → j < 8 → getD (linkBytes a (i * 8 + j)) 0 0 ≡ length (linkAt (stateAt a) i j)
+  count-is i j il jl = link-held (configAt a) (stateAt a) i il (k .is) j jl
+
+  pub count-most : (i j : ℕ) → i < 8 → j < 8 → getD (linkBytes a (i * 8 + j)) 0 0 ≤ 34
+  count-most i j il jl = omega (arith, count-is i j il jl, formed-imaged (configAt a) (stateAt a) (k .formed) .links i j il jl .most)
+
+-- ---- a station of it, and a link
 pub record AtStation (a : List ℕ) (i : ℕ) : Type 0 where
   pub area : Passed a
   pub station : isStation (configAt a) i ≡ true
   pub i-small : i < 8
 
-module _ {a : List ℕ} (k : Passed a) (i : ℕ) where
-  -- its number is below the header's n
-  pub at-station : i < configAt a .n → AtStation a i
-  unfolding isStation
-  at-station l =
-      let e : isStation (configAt a) i ≡ true = lt-ltb i (configAt a .n) l in
-      record { area = k; station = e; i-small = station-small (configAt a) (stateAt a) (k .formed) i e }
-
-  pub no-station : configAt a .n ≤ i → isStation (configAt a) i ≡ false
-  unfolding isStation
-  no-station l = le-ltb i (configAt a .n) l
-
-  -- the record that is read
-  pub station-is : i < 8 → {x : Station vector} → x ≡ parseStation (stationBytes a i) → stationAt (stateAt a) i ≡ x
-  station-is l e = station-read a i l ∙ sym e
-
--- ---- a link of it
 pub record AtLink (a : List ℕ) (i j : ℕ) : Type 0 where
   pub area : Passed a
   pub station : isStation (configAt a) i ≡ true
@@ -128,17 +106,44 @@ is-linked c w i j = ap (λ (t : Bool). ltb i (c .n) && t) (go (decLt j 8))
         none false e = refl
         none true e = absurd (l (linked-small c w i j e .1))
 
--- ---- where the header h and the limits m are read
-module _ {a : List ℕ} (k : Passed a) {h : Header} {m : List (List ℕ)} (e : h ≡ headerOf (configAt a)) (l : m ≡ configAt a .limits) (i j : ℕ) where
-  pub links : isLinked (h .n) m i j ≡ (isStation (configAt a) i && neighbours (configAt a) i j)
-  links = rw (e, l) (is-linked (configAt a) (made k) i j)
+-- ---- where the header h is read
+module _ {a : List ℕ} (k : Passed a) {h : Header} (e : h ≡ headerOf (configAt a)) where
+  pub n-small : h .n ≤ 8
+  n-small = rw e (shape (configAt a) (made k) .small)
 
-  pub at-link : isLinked (h .n) m i j ≡ true → AtLink a i j
-  at-link t = let p = both (isStation (configAt a) i) _ (sym links ∙ t) in at-link-of k i j (p .0) (p .1)
+  pub t-is : configAt a .t ≡ h .t
+  t-is = rw e
 
--- the items on a link
-pub count-is : {a : List ℕ} → Passed a → (i j : ℕ) → i < 8 → j < 8 → getD (linkBytes a (i * 8 + j)) 0 0 ≡ length (linkAt (stateAt a) i j)
-count-is {a} k i j il jl = link-held (configAt a) (stateAt a) i il (k .is) j jl
+  pub allowance-is : (p i : ℕ) → allowanceAt (configAt a) p i ≡ getD (h .allowances) i 0
+  unfolding allowanceAt
+  allowance-is p i = rw e
 
-pub count-most : {a : List ℕ} → Passed a → (i j : ℕ) → i < 8 → j < 8 → getD (linkBytes a (i * 8 + j)) 0 0 ≤ 34
-count-most {a} k i j il jl = omega (arith, count-is k i j il jl, formed-imaged (configAt a) (stateAt a) (k .formed) .links i j il jl .most)
+  pub allowance-small : (i : ℕ) → i < 8 → getD (h .allowances) i 0 ≤ 65535
+  unfolding wellMade allowancesFit
+  allowance-small i l =
+      let p = both (sizeFits (configAt a .n) (configAt a .t)) _ (made k) in
+      let q = both (allowancesFit (configAt a .allowances)) _ (p .1) in
+      let r = both (eqb (length (configAt a .allowances)) 8) _ (q .0) in
+      rw e (leb-true _ _ (every-at 8 (allowanceFits (configAt a .allowances)) i (r .1) l))
+
+  pub no-station : (i : ℕ) → h .n ≤ i → isStation (configAt a) i ≡ false
+  unfolding isStation
+  no-station i l = le-ltb i (configAt a .n) (rw e at l)
+
+  pub at-station : (i : ℕ) → i < h .n → AtStation a i
+  unfolding isStation
+  at-station i l =
+      let p : isStation (configAt a) i ≡ true = lt-ltb i (configAt a .n) (rw e at l) in
+      record { area = k; station = p; i-small = station-small (configAt a) (stateAt a) (k .formed) i p }
+
+  -- and the limits m
+  module _ {m : List (List ℕ)} (l : m ≡ configAt a .limits) (i j : ℕ) where
+    pub links : isLinked (h .n) m i j ≡ (isStation (configAt a) i && neighbours (configAt a) i j)
+    links = rw (e, l) (is-linked (configAt a) (made k) i j)
+
+    pub at-link : isLinked (h .n) m i j ≡ true → AtLink a i j
+    at-link t = let p = both (isStation (configAt a) i) _ (sym links ∙ t) in at-link-of k i j (p .0) (p .1)
+
+    pub limit-is : limit (configAt a .limits) i j ≡ getD (getD m i []) j 0
+    unfolding limit
+    limit-is = rw l

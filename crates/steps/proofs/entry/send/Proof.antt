@@ -6,7 +6,6 @@ use denote.Ref.{now}
 use lib.ListN.{length, getD}
 use borrow.Author.Tests.{not-true, not-false}
 use Rattle.clock.specs.Timestamp.{tick}
-use Rattle.header.specs.declared.Header.{Header}
 use Rattle.reset.specs.Reach.{limit}
 use Rattle.reset.specs.Config.{Config}
 use Rattle.reset.specs.Clock.{vector}
@@ -16,7 +15,7 @@ use Rattle.station.specs.View.{stationView}
 use Rattle.area.specs.Layout.{image, configAt, stateAt}
 use Rattle.steps.specs.Answers.{steppedOf}
 use Rattle.steps.specs.Sending.{sendRefusal}
-use Rattle.steps.proofs.Read.{Passed, passed, refuses, does, n-small, t-small, AtLink, links, at-link, station-is, count-is}
+use Rattle.steps.proofs.Read.{Passed, passed, refuses, does, n-small, t-is, t-small, AtLink, links, at-link, limit-is, station-is, count-is}
 use Rattle.steps.proofs.SendLaws.{Accepted, send-unknown, send-refused, send-accepted}
 use borrow.Author.Needs.{needs}
 use Rattle.steps.proofs.entry.send.Statement.{statement}
@@ -56,9 +55,8 @@ module _ (c : tie.Else1) where
   at : AtLink (a q) (i q) (j q)
   at = at-link (known q) (q .before .before .header-of .ensures) (q .limits-of .ensures) _ _ (sym (c .before .linked .ensures) ∙ not-false _ (c .if1 .left))
 
-  limit-is : limit (d q .limits) (i q) (j q) ≡ getD (getD (q .limits-of .result) (i q) []) (j q) 0
-  unfolding limit
-  limit-is = ap (λ (m : List (List ℕ)). getD (getD m (i q) []) (j q) 0) (sym (q .limits-of .ensures))
+  limited : limit (d q .limits) (i q) (j q) ≡ getD (getD (q .limits-of .result) (i q) []) (j q) 0
+  limited = limit-is (known q) (q .before .before .header-of .ensures) (q .limits-of .ensures) _ _
 
 -- the refusal is decided: the station's record, the items on its link, and what the refusal says of the step
 module _ (c : tie.After-send-refusal) where
@@ -74,11 +72,8 @@ module _ (c : tie.After-send-refusal) where
   n : c .before .count-at .result ≡ length (linkAt (s r) (i r) (j r))
   n = c .before .count-at .ensures ∙ count-is (known r) _ _ (at o .i-small) (at o .j-small)
 
-  ceiling : d r .t ≡ r .before .before .header-of .result .t
-  ceiling = sym (ap (λ (h : Header). h .t) (r .before .before .header-of .ensures))
-
   refusal : c .send-refusal .result ≡ sendRefusal (stationAt (s r) (i r)) (d r .t) (limit (d r .limits) (i r) (j r)) (length (linkAt (s r) (i r) (j r))) (i r) (j r)
-  refusal = rw (x, ceiling, limit-is o, ← n) (c .send-refusal .ensures)
+  refusal = rw (x, t-is (known r) (r .before .before .header-of .ensures), limited o, ← n) (c .send-refusal .ensures)
 
   accepted : c .send-refusal .result ≡ 0 → Accepted (d r) (s r) (known r .formed) (i r) (j r) (g r) (at o .station) (at o .neighbour)
   accepted = send-accepted _ _ (known r .formed) _ _ _ (at o .station) (at o .neighbour) _ refusal
@@ -93,7 +88,7 @@ returns c =
     (c .refused .ensures)
 
 send-refusal-requires : tie.Need-send-refusal-requires
-send-refusal-requires c κs = let l = c .before .before .before .before .before in (at l .i-small, at l .j-small, rw (limit-is l) at (at l .limit-small))
+send-refusal-requires c κs = let l = c .before .before .before .before .before in (at l .i-small, at l .j-small, rw (limited l) at (at l .limit-small))
 
 returns-2 : tie.Need-returns-2
 returns-2 c =
@@ -126,7 +121,7 @@ send-spec =
     tie.close
     (tie.spec
     (λ c κs. search needs) (λ c κs. search needs)
-    (λ c κs. omega (arith, n-small (known c), ap (λ (h : Header). h .n) (c .before .before .header-of .ensures)))
+    (λ c κs. n-small (known c) (c .before .before .header-of .ensures))
     (λ c κs. search needs) (λ c. search needs) returns (λ c. search needs) (λ c. at c .i-small)
     (λ c κs. let k = at (c .before .before) in (k .area .long, k .i-small))
     (λ c κs. let k = at (c .before .before .before .before) in (k .area .long, k .i-small, k .j-small))

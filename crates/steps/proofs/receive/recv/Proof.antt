@@ -1,10 +1,9 @@
 use Prim.Native.Nat.{ℕ}
-use mathlib.Core.Path.{_∙_, sym, ap, ap₂}
+use mathlib.Core.Path.{_∙_, sym, ap₂}
 use mathlib.Core.List.{List}
 use native.Mathlib.Omega.{arith}
 use denote.Ref.{now}
 use borrow.Author.Tests.{not-true, not-false}
-use Rattle.header.specs.declared.Header.{Header}
 use Rattle.step_outcomes.proofs.Outcome.{recv-empty}
 use Rattle.rules.specs.Setup.{headerConfig}
 use Rattle.steps.proofs.Read.{Passed, passed, refuses, n-small, AtLink, links, at-link}
@@ -61,7 +60,7 @@ recv-spec =
     tie.close
     (tie.spec
     (λ c κs. search needs) (λ c κs. search needs)
-    (λ c κs. omega (arith, n-small (known c), ap (λ (h : Header). h .n) (c .before .before .header-of .ensures)))
+    (λ c κs. n-small (known c) (c .before .before .header-of .ensures))
     (λ c κs. search needs) (λ c. search needs) returns
     (λ c κs. let k = at (c .before) in (k .area .long, k .j-small, k .i-small))
     (λ c κs. search needs) (λ c. search needs) returns-2 take-requires (λ c. search needs)

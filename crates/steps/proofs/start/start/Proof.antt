@@ -7,7 +7,6 @@ use denote.Ref.{now}
 use lib.Dec.{leb}
 use lib.ListN.{length}
 use borrow.Author.Tests.{not-true, not-false}
-use Rattle.header.specs.declared.Header.{Header}
 use Rattle.reset.specs.Clock.{vector}
 use Rattle.reset.specs.State.{Station, stationAt}
 use Rattle.reset.specs.Steps.{isNormal}
@@ -23,35 +22,34 @@ use borrow.Author.Needs.{needs}
 use Rattle.steps.proofs.start.start.Statement.{statement}
 use Rattle.steps.proofs.start.start.Tie as tie
 
--- the area, which passed its test
-module _ (c : tie.After-slice-known) where
+-- the area, which passed its test, and its header read
+module _ (c : tie.After-header-of) where
   abbrev a : List ℕ
-  a = now (c .before .args .area)
+  a = now (c .before .before .before .args .area)
 
   abbrev i : ℕ
-  i = c .before .args .station
+  i = c .before .before .before .args .station
 
   known : Passed a
-  known = passed a (λ n. omega (arith, c .slice-known .given n)) (c .before .pre)
+  known = passed a (λ n. omega (arith, c .before .before .slice-known .given n)) (c .before .before .before .pre)
 
 -- there is such a station
-module _ (c : tie.Else1) where
-  abbrev q : tie.After-slice-known
-  q = c .before .before .before .before
-
-  at : AtStation (a q) (i q)
-  at = at-station (known q) _ (omega (arith, c .before .wide .ensures .0, ap (λ (h : Header). h .n) (c .before .before .header-of .ensures)))
+at : (c : tie.Else1) → AtStation (a (c .before .before)) (i (c .before .before))
+at c = at-station (known (c .before .before)) (c .before .before .header-of .ensures) _ (omega (arith, c .before .wide .ensures .0))
 
 -- its record is read, and whether its mode is normal
 module _ (c : tie.After-is-normal) where
   abbrev o : tie.Else1
   o = c .before .before .before .before .before
 
+  abbrev h : tie.After-header-of
+  h = o .before .before
+
   abbrev y : Station vector
-  y = stationAt (stateAt (a (q o))) (i (q o))
+  y = stationAt (stateAt (a h)) (i h)
 
   x : y ≡ stationView (c .before .load-station .result)
-  x = station-is (known (q o)) _ (at o .i-small) (c .before .load-station .ensures)
+  x = station-is (known h) _ (at o .i-small) (c .before .load-station .ensures)
 
   normal : isNormal (y .mode) ≡ c .is-normal .result
   normal = ap (λ (x : Station vector). isNormal (x .mode)) x ∙ sym (c .is-normal .ensures)
@@ -64,11 +62,8 @@ module _ (c : tie.After-in-bounds) where
   abbrev l : tie.After-is-normal
   l = e .before .before .before
 
-  abbrev h : tie.After-slice-known
-  h = q (o l)
-
   abbrev u : Turning vector
-  u = started (configAt (a h)) (i h) (y l)
+  u = started (configAt (a (h l))) (i (h l)) (y l)
 
   phase : y l .phase < 999999
   phase = omega (arith, ap (λ (x : Station vector). x .phase) (x l), e .if3 .left)
@@ -77,18 +72,16 @@ module _ (c : tie.After-in-bounds) where
   mode = normal l ∙ not-false _ (e .before .before .if2 .left)
 
   turns : turnedView (c .before .before .before .start .result) ≡ u
-  turns = c .before .before .before .start .ensures .0 (configAt (a h)) (sym (l .before .before .before .limits-of .ensures)) ∙ ap (started (configAt (a h)) (i h)) (sym (x l))
+  turns = c .before .before .before .start .ensures .0 (configAt (a (h l))) (sym (l .before .before .before .limits-of .ensures)) ∙ ap (started (configAt (a (h l))) (i (h l))) (sym (x l))
 
-  tested : (leb (u .station .phase) 999999 && roomFor (configAt (a h)) (stateAt (a h)) (i h) (length (u .items))) ≡ c .in-bounds .result
-  tested = sym (tests (known h) _ (at (o l) .i-small) (l .before .before .before .limits-of .ensures) _ u turns) ∙ sym (c .in-bounds .ensures)
+  tested : (leb (u .station .phase) 999999 && roomFor (configAt (a (h l))) (stateAt (a (h l))) (i (h l)) (length (u .items))) ≡ c .in-bounds .result
+  tested = sym (tests (known (h l)) _ (at (o l) .i-small) (l .before .before .before .limits-of .ensures) _ u turns) ∙ sym (c .in-bounds .ensures)
 
 returns : tie.Need-returns
 returns c =
     let w = c .before .before in
-    let k = known (w .before .before .before) in
-    refuses k
-    (start-no-station _ _ (k .formed) _ (no-station k _ (omega (arith, w .wide .ensures .0, c .before .if1 .taken, ap (λ (h : Header). h .n) (w .before .header-of .ensures)))))
-    (c .refused .ensures)
+    let k = known (w .before) in
+    refuses k (start-no-station _ _ (k .formed) _ (no-station k (w .before .header-of .ensures) _ (omega (arith, w .wide .ensures .0, c .before .if1 .taken)))) (c .refused .ensures)
 
 returns-2 : tie.Need-returns-2
 returns-2 c =
@@ -116,7 +109,7 @@ settle-requires c κs =
     let k = at (o (l b)) in (
       k .area .long,
       k .i-small,
-      room-after (k .area) _ (k .i-small) (l b .before .before .before .limits-of .ensures) _ (sym (b .in-bounds .ensures) ∙ not-false _ (c .before .if4 .left)) (stateAt (a (h b))) (λ j. refl) (k .area .is),
+      room-after (k .area) _ (k .i-small) (l b .before .before .before .limits-of .ensures) _ (sym (b .in-bounds .ensures) ∙ not-false _ (c .before .if4 .left)) (stateAt (a (h (l b)))) (λ j. refl) (k .area .is),
     )
 
 returns-5 : tie.Need-returns-5
@@ -124,7 +117,7 @@ returns-5 c =
     let f = c .before .before .before .before in
     let b = f .before in
     let k = at (o (l b)) in
-    settled (k .area) _ (k .i-small) (l b .before .before .before .limits-of .ensures) _ (u b) (turns b) (stateAt (a (h b)))
+    settled (k .area) _ (k .i-small) (l b .before .before .before .limits-of .ensures) _ (u b) (turns b) (stateAt (a (h (l b))))
     (start-done _ _ (k .area .formed) _ (k .station) (mode b) (phase b) (tested b ∙ not-false _ (f .if4 .left))) (k .area .is) (c .before .before .settle .ensures)
 
 pub start-spec : {M : Type 1} → statement M
