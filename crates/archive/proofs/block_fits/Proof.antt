@@ -36,7 +36,5 @@ returns-2 c =
 pub block-fits-spec : {M : Type 1} → statement M
 block-fits-spec =
     tie.close
-    (tie.spec
-    (λ c κs. search needs) returns (λ c κs. search needs) (λ c κs. search needs) tail-fits-requires
-    (λ c. search needs) (λ c κs. search needs) (λ c κs. search needs) records-fit-requires
-    returns-2)
+    (tie.spec (λ c κs. search needs) returns (λ c κs. search needs) (λ c κs. search needs) tail-fits-requires
+    (λ c. search needs) (λ c κs. search needs) (λ c κs. search needs) records-fit-requires returns-2)

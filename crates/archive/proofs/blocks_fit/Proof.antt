@@ -19,9 +19,6 @@ Inv-loop a head known n b₀ b = (b ≤ n) × (every b (λ (m : ℕ). blockFits 
 abbrev μ-loop : tie.MeasureT-loop
 μ-loop a head known n b₀ b = n - b
 
-loop-holds : tie.Need-loop-holds Inv-loop μ-loop
-loop-holds c = (omega arith, every-none _)
-
 block-fits-requires : tie.Need-block-fits-requires Inv-loop μ-loop
 block-fits-requires c κs =
     let p = c .before .before .before .before .before .pre in
@@ -54,9 +51,6 @@ returns-2 c =
 pub blocks-fit-spec : {M : Type 1} → statement M
 blocks-fit-spec =
     tie.close
-    (tie.spec
-    Inv-loop
-    μ-loop
-    loop-holds (λ c. omega arith) (λ c. omega arith) (λ c. omega arith) (λ c. omega arith)
-    (λ c. omega arith) (λ c. omega arith) block-fits-requires returns (λ c. omega arith) loop-again
-    returns-2)
+    (tie.spec Inv-loop μ-loop (λ c. (omega arith, every-none _)) (λ c. omega arith) (λ c. omega arith)
+    (λ c. omega arith) (λ c. omega arith) (λ c. omega arith) (λ c. omega arith) block-fits-requires returns
+    (λ c. omega arith) loop-again returns-2)

@@ -16,9 +16,6 @@ Inv-loop block i m all₀ k₀ all k = (k ≤ 15) × (eqb all 0 ≡ every k (λ 
 abbrev μ-loop : tie.MeasureT-loop
 μ-loop block i m all₀ k₀ all k = 15 - k
 
-loop-holds : tie.Need-loop-holds Inv-loop μ-loop
-loop-holds c = (omega arith, sym (every-none _))
-
 loop-again : tie.Need-loop-again Inv-loop μ-loop
 loop-again c =
     let l = c .before .before .before .loop in
@@ -32,9 +29,6 @@ returns c =
 pub column-fits-spec : {M : Type 1} → statement M
 column-fits-spec =
     tie.close
-    (tie.spec
-    Inv-loop
-    μ-loop
-    loop-holds (λ c. omega arith) (λ c. omega arith) (λ c. omega arith) (λ c. omega arith)
-    (λ c κs. omega arith) (λ c κs. search needs) (λ c. omega arith) (λ c. omega arith) loop-again
-    returns)
+    (tie.spec Inv-loop μ-loop (λ c. (omega arith, sym (every-none _))) (λ c. omega arith) (λ c. omega arith)
+    (λ c. omega arith) (λ c. omega arith) (λ c κs. omega arith) (λ c κs. search needs) (λ c. omega arith)
+    (λ c. omega arith) loop-again returns)

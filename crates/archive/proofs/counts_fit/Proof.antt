@@ -17,12 +17,6 @@ Inv-loop block n t ok₀ j₀ ok j = (j ≤ 8) × (ok ≡ every j (λ (i : ℕ).
 abbrev μ-loop : tie.MeasureT-loop
 μ-loop block n t ok₀ j₀ ok j = 8 - j
 
-loop-holds : tie.Need-loop-holds Inv-loop μ-loop
-loop-holds c = (omega arith, sym (every-none _))
-
-column-fits-requires : tie.Need-column-fits-requires Inv-loop μ-loop
-column-fits-requires c κs = (c .before .before .before .before .pre, omega arith)
-
 loop-again : tie.Need-loop-again Inv-loop μ-loop
 loop-again c = (omega arith, rw (every-turn, c .before .before .before .loop .inv .1, c .column-fits .ensures, c .before .ceiling .ensures))
 
@@ -35,8 +29,6 @@ returns c =
 pub counts-fit-spec : {M : Type 1} → statement M
 counts-fit-spec =
     tie.close
-    (tie.spec
-    Inv-loop
-    μ-loop
-    loop-holds (λ c. omega arith) (λ c κs. search needs) column-fits-requires (λ c. omega arith)
-    (λ c. omega arith) loop-again returns)
+    (tie.spec Inv-loop μ-loop (λ c. (omega arith, sym (every-none _))) (λ c. omega arith) (λ c κs. search needs)
+    (λ c κs. (c .before .before .before .before .pre, omega arith)) (λ c. omega arith) (λ c. omega arith) loop-again
+    returns)

@@ -63,10 +63,6 @@ returns c =
 pub look-spec : {M : Type 1} → statement M
 look-spec =
     tie.close
-    (tie.spec
-    Inv-loop
-    μ-loop
-    loop-holds (λ c κs. omega arith) add-e (λ c. omega arith) (λ c. omega arith) part-part-end
-    get32-requires (λ c κs. search needs) (λ c κs. search needs) (λ c. omega arith)
-    (λ c. omega arith) get16-requires (λ c κs. search needs) get32-requires-2 get32-requires-3
-    (λ c. omega arith) (λ c. omega arith) loop-again returns)
+    (tie.spec Inv-loop μ-loop loop-holds (λ c κs. omega arith) add-e (λ c. omega arith) (λ c. omega arith) part-part-end
+    get32-requires (λ c κs. search needs) (λ c κs. search needs) (λ c. omega arith) (λ c. omega arith) get16-requires
+    (λ c κs. search needs) get32-requires-2 get32-requires-3 (λ c. omega arith) (λ c. omega arith) loop-again returns)

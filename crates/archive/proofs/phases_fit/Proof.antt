@@ -19,9 +19,6 @@ Inv-loop block count ok₀ k₀ ok k = (k ≤ count) × (ok ≡ every k (λ (i :
 abbrev μ-loop : tie.MeasureT-loop
 μ-loop block count ok₀ k₀ ok k = count - k
 
-loop-holds : tie.Need-loop-holds Inv-loop μ-loop
-loop-holds c = (omega arith, sym (every-none _))
-
 add-e : tie.Need-add-e Inv-loop μ-loop
 add-e c = omega (arith, start-is (c .before .before .loop .k) (omega arith), c .start-of .ensures)
 
@@ -48,8 +45,5 @@ returns c =
 pub phases-fit-spec : {M : Type 1} → statement M
 phases-fit-spec =
     tie.close
-    (tie.spec
-    Inv-loop
-    μ-loop
-    loop-holds (λ c κs. omega arith) add-e (λ c. omega arith) (λ c. omega arith) part-get32-end
-    get32-requires (λ c. omega arith) (λ c. omega arith) loop-again returns)
+    (tie.spec Inv-loop μ-loop (λ c. (omega arith, sym (every-none _))) (λ c κs. omega arith) add-e (λ c. omega arith)
+    (λ c. omega arith) part-get32-end get32-requires (λ c. omega arith) (λ c. omega arith) loop-again returns)

@@ -34,7 +34,6 @@ returns-2 c =
 pub record-at-spec : {M : Type 1} → statement M
 record-at-spec =
     tie.close
-    (tie.spec
-    (λ c. search needs) (λ c. search needs) (λ c. search needs) (λ c. search needs) returns
-    (λ c. search needs) (λ c κs. search needs) add-o add-e (λ c. search needs) (λ c. search needs)
-    part-result-end-2 returns-2)
+    (tie.spec (λ c. search needs) (λ c. search needs) (λ c. search needs) (λ c. search needs) returns
+    (λ c. search needs) (λ c κs. search needs) add-o add-e (λ c. search needs) (λ c. search needs) part-result-end-2
+    returns-2)

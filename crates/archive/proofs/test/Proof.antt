@@ -45,7 +45,5 @@ returns-5 c =
 pub test-spec : {M : Type 1} → statement M
 test-spec =
     tie.close
-    (tie.spec
-    returns returns-2 (λ c. search needs) (λ c. search needs) (λ c. search needs)
-    (λ c κs. search needs) returns-3 (λ c. search needs) returns-4 (λ c. search needs)
-    (λ c κs. search needs) blocks-fit-requires returns-5)
+    (tie.spec returns returns-2 (λ c. search needs) (λ c. search needs) (λ c. search needs) (λ c κs. search needs)
+    returns-3 (λ c. search needs) returns-4 (λ c. search needs) (λ c κs. search needs) blocks-fit-requires returns-5)

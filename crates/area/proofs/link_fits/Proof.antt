@@ -25,16 +25,12 @@ tested c =
     let e : 888 + s .k * 715 + 715 - (888 + s .k * 715) ≡ 715 = omega arith in
     sym (rw (c .before .before .places-of .ensures .0, e) at (c .items-fit .ensures))
 
-returns : tie.Need-returns
-returns c = rw (tested (c .before) ∙ not-true _ (c .if1 .taken))
-
 returns-2 : tie.Need-returns-2
 returns-2 c = rw (tested (c .before .before) ∙ not-false _ (c .before .if1 .left)) (c .blank-between .ensures)
 
 pub link-fits-spec : {M : Type 1} → statement M
 link-fits-spec =
     tie.close
-    (tie.spec
-    (λ c. search needs) (λ c. search needs) (λ c. search needs) (λ c κs. search needs)
-    (λ c. search needs) (λ c. search needs) (λ c. search needs) items-fit-requires returns
-    (λ c κs. search needs) returns-2)
+    (tie.spec (λ c. search needs) (λ c. search needs) (λ c. search needs) (λ c κs. search needs) (λ c. search needs)
+    (λ c. search needs) (λ c. search needs) items-fit-requires
+    (λ c. rw (tested (c .before) ∙ not-true _ (c .if1 .taken))) (λ c κs. search needs) returns-2)

@@ -17,9 +17,6 @@ Inv-loop head a n t from₀ k₀ from k = (k ≤ 64) × Read (blockConfig head) 
 abbrev μ-loop : tie.MeasureT-loop
 μ-loop head a n t from₀ k₀ from k = 64 - k
 
-loop-holds : tie.Need-loop-holds Inv-loop μ-loop
-loop-holds c = (omega arith, read-none _ _)
-
 link-fits-requires : tie.Need-link-fits-requires Inv-loop μ-loop
 link-fits-requires c κs =
     let l = c .before .before .before .loop in
@@ -35,18 +32,6 @@ returns c =
 -- a count is a byte
 count-below : (c : tie.After-shared-slice-known4 Inv-loop μ-loop) → getD (now (c .before .before .before .before .before .before .before .args .a)) (888 + c .before .before .loop .k * 715) 0 < 256
 count-below c = omega (arith, c .shared-slice-known4 .given (888 + c .before .before .loop .k * 715))
-
-cast-from : tie.Need-cast-from Inv-loop μ-loop
-cast-from c = omega (arith, count-below (c .before .before .before))
-
-mul-from : tie.Need-mul-from Inv-loop μ-loop
-mul-from c = omega (arith, count-below (c .before .before .before))
-
-add-from : tie.Need-add-from Inv-loop μ-loop
-add-from c = omega (arith, count-below (c .before .before .before))
-
-add-from-2 : tie.Need-add-from-2 Inv-loop μ-loop
-add-from-2 c = omega (arith, count-below (c .before .before .before))
 
 loop-again : tie.Need-loop-again Inv-loop μ-loop
 loop-again c =
@@ -77,9 +62,10 @@ returns-2 c =
 pub links-fit-spec : {M : Type 1} → statement M
 links-fit-spec =
     tie.close
-    (tie.spec
-    Inv-loop
-    μ-loop
-    (λ c. omega arith) (λ c κs. omega arith) loop-holds (λ c. omega arith) (λ c. omega arith)
-    (λ c. omega arith) link-fits-requires returns cast-from mul-from add-from add-from-2
-    (λ c. omega arith) (λ c. omega arith) loop-again blank-between-requires returns-2)
+    (tie.spec Inv-loop μ-loop (λ c. omega arith) (λ c κs. omega arith) (λ c. (omega arith, read-none _ _))
+    (λ c. omega arith) (λ c. omega arith) (λ c. omega arith) link-fits-requires returns
+    (λ c. omega (arith, count-below (c .before .before .before)))
+    (λ c. omega (arith, count-below (c .before .before .before)))
+    (λ c. omega (arith, count-below (c .before .before .before)))
+    (λ c. omega (arith, count-below (c .before .before .before))) (λ c. omega arith) (λ c. omega arith) loop-again
+    blank-between-requires returns-2)

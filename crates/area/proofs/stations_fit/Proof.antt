@@ -19,9 +19,6 @@ Inv-loop head a i₀ i = (i ≤ 8) × (every i (stationTestAt (blockConfig head)
 abbrev μ-loop : tie.MeasureT-loop
 μ-loop head a i₀ i = 8 - i
 
-loop-holds : tie.Need-loop-holds Inv-loop μ-loop
-loop-holds c = (omega arith, every-none _)
-
 test-requires : tie.Need-test-requires Inv-loop μ-loop
 test-requires c κs = (omega arith, omega arith, simp (length-take, length-drop) (omega arith))
 
@@ -50,9 +47,6 @@ returns-2 c = let e : c .before .loop .i ≡ 8 = omega arith in sym (rw e at (c 
 pub stations-fit-spec : {M : Type 1} → statement M
 stations-fit-spec =
     tie.close
-    (tie.spec
-    Inv-loop
-    μ-loop
-    loop-holds (λ c. omega arith) (λ c. omega arith) (λ c. omega arith) (λ c. omega arith)
-    (λ c. omega arith) (λ c. omega arith) test-requires returns (λ c. omega arith)
+    (tie.spec Inv-loop μ-loop (λ c. (omega arith, every-none _)) (λ c. omega arith) (λ c. omega arith)
+    (λ c. omega arith) (λ c. omega arith) (λ c. omega arith) (λ c. omega arith) test-requires returns (λ c. omega arith)
     (λ c. omega arith) loop-again returns-2)

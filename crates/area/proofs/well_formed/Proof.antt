@@ -34,6 +34,5 @@ returns-3 c = rw (eq-eqb _ 65536 (c .before .before .before .before .if1 .left),
 pub well-formed-spec : {M : Type 1} → statement M
 well-formed-spec =
     tie.close
-    (tie.spec
-    returns (λ c. search needs) (λ c. search needs) (λ c. search needs) (λ c κs. search needs)
-    returns-2 parts-fit-requires returns-3)
+    (tie.spec returns (λ c. search needs) (λ c. search needs) (λ c. search needs) (λ c κs. search needs) returns-2
+    parts-fit-requires returns-3)

@@ -15,7 +15,6 @@ abbrev μ-loop : tie.MeasureT-loop
 pub feed-spec : {M : Type 1} → statement M
 feed-spec =
     tie.close
-    (tie.spec
-    Inv-loop μ-loop (λ c. search needs) (λ c κs. search needs) (λ c κs. search needs)
+    (tie.spec Inv-loop μ-loop (λ c. search needs) (λ c κs. search needs) (λ c κs. search needs)
     (λ c. let f = c .before .before .before .before .fill .ensures in omega (arith, f .inside, f .on (c .before .before .before .before .before .before .loop-test .taken)))
     (λ c. search needs) (λ c. search needs) (λ c. search needs))

@@ -38,8 +38,6 @@ returns c =
 pub share-front-spec : {M : Type 1} → statement M
 share-front-spec =
     tie.close
-    (tie.spec
-    (λ c. search needs) (λ c κs. search needs) (λ c. search needs) (λ c. search needs)
-    (λ c κs. search needs) (λ c. search needs) (λ c. search needs) (λ c κs. search needs)
-    (λ c. search needs) (λ c. search needs) (λ c. search needs) mul-result (λ c. search needs)
-    (λ c. search needs) (λ c. search needs) add-result-5 returns)
+    (tie.spec (λ c. search needs) (λ c κs. search needs) (λ c. search needs) (λ c. search needs) (λ c κs. search needs)
+    (λ c. search needs) (λ c. search needs) (λ c κs. search needs) (λ c. search needs) (λ c. search needs)
+    (λ c. search needs) mul-result (λ c. search needs) (λ c. search needs) (λ c. search needs) add-result-5 returns)

@@ -20,5 +20,7 @@ returns c =
 pub weigh-spec : {M : Type 1} → statement M
 weigh-spec =
     tie.close
-    (tie.spec
-    (λ c κs. omega arith) weigh-on-requires (λ c. search needs) (λ c. search needs) (λ c. search needs) (λ c κs. search needs) returns (λ c κs. (omega arith, omega arith, omega arith, omega arith, c .before .before .before .weigh-on .ensures .0)) (λ c. search needs))
+    (tie.spec (λ c κs. omega arith) weigh-on-requires (λ c. search needs) (λ c. search needs) (λ c. search needs)
+    (λ c κs. search needs) returns
+    (λ c κs. (omega arith, omega arith, omega arith, omega arith, c .before .before .before .weigh-on .ensures .0))
+    (λ c. search needs))

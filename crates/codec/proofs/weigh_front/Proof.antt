@@ -14,9 +14,6 @@ Inv-loop s low₀ high₀ i₀ low high i = (i ≤ 32) × (low ≤ 255 * i) × (
 abbrev μ-loop : tie.MeasureT-loop
 μ-loop s low₀ high₀ i₀ low high i = 32 - i
 
-loop-holds : tie.Need-loop-holds Inv-loop μ-loop
-loop-holds c = omega (arith, no-columns 3 (now (c .before .args .s)))
-
 loop-again : tie.Need-loop-again Inv-loop μ-loop
 loop-again c =
     let l = c .before .before .loop in
@@ -33,9 +30,6 @@ returns c =
 pub weigh-front-spec : {M : Type 1} → statement M
 weigh-front-spec =
     tie.close
-    (tie.spec
-    Inv-loop
-    μ-loop
-    loop-holds (λ c κs. search needs) (λ c. omega arith) (λ c. omega arith) (λ c. omega arith)
-    (λ c. omega arith) loop-again (λ c. omega arith) (λ c. omega arith) (λ c. omega arith)
-    (λ c. omega arith) returns)
+    (tie.spec Inv-loop μ-loop (λ c. omega (arith, no-columns 3 (now (c .before .args .s)))) (λ c κs. search needs)
+    (λ c. omega arith) (λ c. omega arith) (λ c. omega arith) (λ c. omega arith) loop-again (λ c. omega arith)
+    (λ c. omega arith) (λ c. omega arith) (λ c. omega arith) returns)

@@ -37,9 +37,6 @@ returns c =
 pub weigh-on-spec : {M : Type 1} → statement M
 weigh-on-spec =
     tie.close
-    (tie.spec
-    Inv-loop
-    μ-loop
-    (λ c. (omega arith, omega arith, c .before .pre .4)) (λ c. omega arith) (λ c. omega arith) (λ c. omega arith)
-    (λ c κs. search needs) mul-all add-all-2 (λ c. omega arith) (λ c. omega arith) loop-again
+    (tie.spec Inv-loop μ-loop (λ c. (omega arith, omega arith, c .before .pre .4)) (λ c. omega arith) (λ c. omega arith)
+    (λ c. omega arith) (λ c κs. search needs) mul-all add-all-2 (λ c. omega arith) (λ c. omega arith) loop-again
     returns)

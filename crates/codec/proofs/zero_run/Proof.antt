@@ -18,12 +18,6 @@ Inv-loop2 s lead n ok₀ i₀ ok i = (i ≤ length s) × Scanned s ok i
 abbrev μ-loop2 : tie.MeasureT-loop2
 μ-loop2 s lead n ok₀ i₀ ok i = length s - i
 
-zeros-requires : tie.Need-zeros-requires Inv-loop μ-loop Inv-loop2 μ-loop2
-zeros-requires c κs = tt
-
-returns : tie.Need-returns Inv-loop μ-loop Inv-loop2 μ-loop2
-returns c = c .zeros .ensures
-
 loop-holds : tie.Need-loop-holds Inv-loop μ-loop Inv-loop2 μ-loop2
 loop-holds c =
     let a = c .before .before .before .before .args in
@@ -33,9 +27,6 @@ loop-again : tie.Need-loop-again Inv-loop μ-loop Inv-loop2 μ-loop2
 loop-again c =
     let l = c .before .before .loop in
     (omega arith, rw (c .piece .ensures) (scanned-more (now (c .before .before .before .before .before .before .before .args .s)) (l .ok) (l .i) 512 (l .inv .1)))
-
-loop2-holds : tie.Need-loop2-holds Inv-loop μ-loop Inv-loop2 μ-loop2
-loop2-holds c = c .before .loop .inv
 
 loop2-again : tie.Need-loop2-again Inv-loop μ-loop Inv-loop2 μ-loop2
 loop2-again c =
@@ -50,12 +41,7 @@ returns-2 c =
 pub zero-run-spec : {M : Type 1} → statement M
 zero-run-spec =
     tie.close
-    (tie.spec
-    Inv-loop
-    μ-loop
-    Inv-loop2
-    μ-loop2
-    zeros-requires returns (λ c κs. omega arith) (λ c κs. omega arith) loop-holds (λ c. omega arith)
-    (λ c κs. omega arith) (λ c. omega arith) (λ c. omega arith) loop-again loop2-holds
-    (λ c. omega arith) (λ c κs. omega arith) (λ c. omega arith) (λ c. omega arith) loop2-again
-    returns-2)
+    (tie.spec Inv-loop μ-loop Inv-loop2 μ-loop2 (λ c κs. tt) (λ c. c .zeros .ensures) (λ c κs. omega arith)
+    (λ c κs. omega arith) loop-holds (λ c. omega arith) (λ c κs. omega arith) (λ c. omega arith) (λ c. omega arith)
+    loop-again (λ c. c .before .loop .inv) (λ c. omega arith) (λ c κs. omega arith) (λ c. omega arith)
+    (λ c. omega arith) loop2-again returns-2)

@@ -15,9 +15,6 @@ Inv-loop s acc₀ i₀ acc i = (i ≤ length s) × Alike acc (total (take i s))
 abbrev μ-loop : tie.MeasureT-loop
 μ-loop s acc₀ i₀ acc i = length s - i
 
-loop-holds : tie.Need-loop-holds Inv-loop μ-loop
-loop-holds c = (omega arith, ((λ _. zeros-total 0), (λ _. refl)))
-
 loop-again : tie.Need-loop-again Inv-loop μ-loop
 loop-again c =
     let l = c .before .before .loop in
@@ -34,4 +31,4 @@ returns c =
 pub zeros-spec : {M : Type 1} → statement M
 zeros-spec =
     tie.close
-    (tie.spec Inv-loop μ-loop loop-holds (λ c. omega arith) (λ c. omega arith) (λ c. omega arith) loop-again returns)
+    (tie.spec Inv-loop μ-loop (λ c. (omega arith, ((λ _. zeros-total 0), (λ _. refl)))) (λ c. omega arith) (λ c. omega arith) (λ c. omega arith) loop-again returns)

@@ -32,6 +32,5 @@ returns c =
 pub body-fits-spec : {M : Type 1} → statement M
 body-fits-spec =
     tie.close
-    (tie.spec
-    (λ c. search needs) (λ c κs. search needs) add-end (λ c. search needs) (λ c. search needs)
+    (tie.spec (λ c. search needs) (λ c κs. search needs) add-end (λ c. search needs) (λ c. search needs)
     part-records-fit-end records-fit-requires (λ c κs. search needs) returns)

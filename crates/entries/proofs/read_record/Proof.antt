@@ -44,7 +44,5 @@ returns-4 c =
 pub read-record-spec : {M : Type 1} → statement M
 read-record-spec =
     tie.close
-    (tie.spec
-    (λ c κs. search needs) returns count-of-requires returns-2 returns-3 start-of-requires add-e
-    (λ c. search needs) (λ c. search needs) part-put-bytes-end (λ c κs. search needs)
-    (λ c. search needs) returns-4)
+    (tie.spec (λ c κs. search needs) returns count-of-requires returns-2 returns-3 start-of-requires add-e
+    (λ c. search needs) (λ c. search needs) part-put-bytes-end (λ c κs. search needs) (λ c. search needs) returns-4)

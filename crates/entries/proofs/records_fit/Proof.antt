@@ -24,9 +24,6 @@ Inv-loop rs count k₀ k = (k ≤ count) × (every k (λ (m : ℕ). wellMadeReco
 abbrev μ-loop : tie.MeasureT-loop
 μ-loop rs count k₀ k = count - k
 
-loop-holds : tie.Need-loop-holds Inv-loop μ-loop
-loop-holds c = (omega arith, every-none _)
-
 returns : tie.Need-returns Inv-loop μ-loop
 unfolding recordsFit
 returns c =
@@ -48,9 +45,6 @@ returns-2 c = let e : c .before .loop .k ≡ c .before .before .before .args .co
 pub records-fit-spec : {M : Type 1} → statement M
 records-fit-spec =
     tie.close
-    (tie.spec
-    Inv-loop
-    μ-loop
-    loop-holds (λ c. omega arith) (λ c. omega arith) (λ c. omega arith) (λ c. omega arith)
-    (λ c. omega arith) (λ c κs. search needs) returns (λ c. omega arith) (λ c. omega arith)
-    loop-again returns-2)
+    (tie.spec Inv-loop μ-loop (λ c. (omega arith, every-none _)) (λ c. omega arith) (λ c. omega arith)
+    (λ c. omega arith) (λ c. omega arith) (λ c. omega arith) (λ c κs. search needs) returns (λ c. omega arith)
+    (λ c. omega arith) loop-again returns-2)

@@ -4,8 +4,5 @@ use Rattle.entries.proofs.Laws.{start-is}
 use Rattle.entries.proofs.start_of.Statement.{statement}
 use Rattle.entries.proofs.start_of.Tie as tie
 
-returns : tie.Need-returns
-returns c = sym (start-is (c .args .k) (c .pre))
-
 pub start-of-spec : {M : Type 1} → statement M
-start-of-spec = tie.close (tie.spec (λ c. search needs) (λ c. search needs) returns)
+start-of-spec = tie.close (tie.spec (λ c. search needs) (λ c. search needs) (λ c. sym (start-is (c .args .k) (c .pre))))

@@ -28,7 +28,5 @@ returns c =
 pub tail-fits-spec : {M : Type 1} → statement M
 tail-fits-spec =
     tie.close
-    (tie.spec
-    (λ c. search needs) (λ c κs. search needs) add-end sub-zeros part-zeros-start
-    (λ c. search needs) (λ c κs. search needs) (λ c. search needs) (λ c. search needs)
-    (λ c. search needs) (λ c κs. search needs) returns)
+    (tie.spec (λ c. search needs) (λ c κs. search needs) add-end sub-zeros part-zeros-start (λ c. search needs)
+    (λ c κs. search needs) (λ c. search needs) (λ c. search needs) (λ c. search needs) (λ c κs. search needs) returns)

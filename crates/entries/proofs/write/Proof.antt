@@ -37,6 +37,5 @@ returns-5 c =
 pub write-spec : {M : Type 1} → statement M
 write-spec =
     tie.close
-    (tie.spec
-    returns returns-2 (λ c κs. search needs) returns-3 returns-4 (λ c. search needs)
-    (λ c. search needs) (λ c. search needs) (λ c κs. search needs) (λ c. search needs) returns-5)
+    (tie.spec returns returns-2 (λ c κs. search needs) returns-3 returns-4 (λ c. search needs) (λ c. search needs)
+    (λ c. search needs) (λ c κs. search needs) (λ c. search needs) returns-5)

@@ -18,9 +18,6 @@ Inv-loop limits i₀ i = (i ≤ 8) × (every i (λ (k : ℕ). rowInRange (getD l
 abbrev μ-loop : tie.MeasureT-loop
 μ-loop limits i₀ i = 8 - i
 
-loop-holds : tie.Need-loop-holds Inv-loop μ-loop
-loop-holds c = (omega arith, every-none _)
-
 returns : tie.Need-returns Inv-loop μ-loop
 unfolding limitsInRange
 returns c = sym (every-fails 8 (λ (i : ℕ). rowInRange (getD (c .before .before .before .before .before .args .t1) i [])) (c .before .before .before .before .loop .i) (omega arith) (sym (c .before .row-fits .ensures) ∙ not-true _ (c .if1 .taken)))
@@ -35,8 +32,5 @@ returns-2 c = let e : c .before .loop .i ≡ 8 = omega arith in sym (rw e at (c 
 pub limits-fit-spec : {M : Type 1} → statement M
 limits-fit-spec =
     tie.close
-    (tie.spec
-    Inv-loop
-    μ-loop
-    loop-holds (λ c. omega arith) (λ c. omega arith) (λ c κs. search needs) returns
-    (λ c. omega arith) (λ c. omega arith) loop-again returns-2)
+    (tie.spec Inv-loop μ-loop (λ c. (omega arith, every-none _)) (λ c. omega arith) (λ c. omega arith)
+    (λ c κs. search needs) returns (λ c. omega arith) (λ c. omega arith) loop-again returns-2)

@@ -17,9 +17,6 @@ Inv-loop s ok₀ i₀ ok i = (i ≤ 64) × (ok ≡ every i (λ (k : ℕ). leb (g
 abbrev μ-loop : tie.MeasureT-loop
 μ-loop s ok₀ i₀ ok i = 64 - i
 
-loop-holds : tie.Need-loop-holds Inv-loop μ-loop
-loop-holds c = (omega arith, sym (every-none _))
-
 loop-again : tie.Need-loop-again Inv-loop μ-loop
 loop-again c = (omega arith, rw (every-turn, c .before .before .loop .inv .1))
 
@@ -32,8 +29,5 @@ returns c =
 pub limits-small-spec : {M : Type 1} → statement M
 limits-small-spec =
     tie.close
-    (tie.spec
-    Inv-loop
-    μ-loop
-    loop-holds (λ c. omega arith) (λ c. omega arith) (λ c. omega arith) (λ c. omega arith)
-    loop-again returns)
+    (tie.spec Inv-loop μ-loop (λ c. (omega arith, sym (every-none _))) (λ c. omega arith) (λ c. omega arith)
+    (λ c. omega arith) (λ c. omega arith) loop-again returns)

@@ -43,7 +43,5 @@ returns-4 c =
 pub well-made-spec : {M : Type 1} → statement M
 well-made-spec =
     tie.close
-    (tie.spec
-    returns (λ c. search needs) (λ c κs. search needs) returns-2 (λ c κs. search needs) returns-3
-    (λ c. search needs) (λ c. search needs) (λ c. search needs) (λ c κs. search needs)
-    sealed-front-requires returns-4)
+    (tie.spec returns (λ c. search needs) (λ c κs. search needs) returns-2 (λ c κs. search needs) returns-3
+    (λ c. search needs) (λ c. search needs) (λ c. search needs) (λ c κs. search needs) sealed-front-requires returns-4)

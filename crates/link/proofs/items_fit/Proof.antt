@@ -27,9 +27,6 @@ returns : tie.Need-returns Inv-loop μ-loop
 unfolding itemsTest
 returns c = rw (lt-leb _ _ (c .if1 .taken))
 
-loop-holds : tie.Need-loop-holds Inv-loop μ-loop
-loop-holds c = (omega arith, refl, every-none _ ∙ sym (none-fit _ _))
-
 -- the part lent is 21 bytes
 width : (o : ℕ) → o + 21 - o ≡ 21
 width o = omega arith
@@ -43,12 +40,6 @@ loop-again c =
     let kind : getD p 0 0 ≡ 1 = rw (width (1 + k * 21)) at (c .before .before .if2 .taken) in
     let row : c .before .get-row .result ≡ numsAt 2 8 p 5 = rw (width (1 + k * 21)) at (c .before .get-row .ensures) in
     (omega arith, rw (c .merge .ensures, merged-length) (l .loop .inv .1), rw (every-turn, l .loop .inv .2, message-test (s .n) (s .t) p kind, c .merge .ensures, merged-fit (s .n) (s .t) (l .loop .most) _ (l .loop .inv .1), row))
-
-get-row-requires : tie.Need-get-row-requires Inv-loop μ-loop
-get-row-requires c κs = simp (length-take, length-drop) (omega arith)
-
-is-control-requires : tie.Need-is-control-requires Inv-loop μ-loop
-is-control-requires c κs = simp (length-take, length-drop) (omega arith)
 
 -- the test of a place that holds no message
 tested : (c : tie.After-is-control Inv-loop μ-loop)
@@ -82,10 +73,9 @@ returns-3 c =
 pub items-fit-spec : {M : Type 1} → statement M
 items-fit-spec =
     tie.close
-    (tie.spec
-    Inv-loop
-    μ-loop
-    (λ c. search needs) returns (λ c. search needs) loop-holds (λ c. search needs) (λ c. search needs)
+    (tie.spec Inv-loop μ-loop (λ c. search needs) returns (λ c. search needs)
+    (λ c. (omega arith, refl, every-none _ ∙ sym (none-fit _ _))) (λ c. search needs) (λ c. search needs)
     (λ c. search needs) (λ c. search needs) (λ c. search needs) (λ c. search needs) (λ c. search needs)
-    get-row-requires (λ c κs. search needs) (λ c. search needs) (λ c. search needs) loop-again is-control-requires
-    returns-2 (λ c. search needs) (λ c. search needs) loop-again-2 (λ c κs. search needs) returns-3)
+    (λ c κs. simp (length-take, length-drop) (omega arith)) (λ c κs. search needs) (λ c. search needs)
+    (λ c. search needs) loop-again (λ c κs. simp (length-take, length-drop) (omega arith)) returns-2 (λ c. search needs)
+    (λ c. search needs) loop-again-2 (λ c κs. search needs) returns-3)

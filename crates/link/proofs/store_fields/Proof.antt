@@ -19,9 +19,6 @@ front-set (x ∷ l) vs d b e n =
     let z : drop (1 + length vs) (x ∷ l) ≡ [] = drop-of-length-le (x ∷ l) {i = 1 + length vs} (omega arith) in
     rw (e, z, append-nil)
 
-same-length : tie.Need-same-length
-same-length c = simp length-set (omega arith)
-
 returns : tie.Need-returns
 returns c =
     let c2 = c .before .before in
@@ -37,4 +34,4 @@ returns c =
 
 pub store-fields-spec : {M : Type 1} → statement M
 store-fields-spec =
-    tie.close (tie.spec (λ c κs. search needs) (λ c κs. search needs) (λ c. search needs) same-length returns)
+    tie.close (tie.spec (λ c κs. search needs) (λ c κs. search needs) (λ c. search needs) (λ c. simp length-set (omega arith)) returns)

@@ -7,19 +7,10 @@ use borrow.Author.Needs.{needs}
 use Rattle.record.proofs.store_front.Statement.{statement}
 use Rattle.record.proofs.store_front.Tie as tie
 
-slice-write-d-2 : tie.Need-slice-write-d-2
-slice-write-d-2 c = simp length-set (omega arith)
-
-slice-write-d-3 : tie.Need-slice-write-d-3
-slice-write-d-3 c = simp length-set (omega arith)
-
-slice-write-d-4 : tie.Need-slice-write-d-4
-slice-write-d-4 c = simp length-set (omega arith)
-
 returns : tie.Need-returns
 returns c = stored (c .args .kind ∷ c .args .station ∷ c .args .peer ∷ 0 ∷ []) (now (c .args .d)) 0 (omega arith)
 
 pub store-front-spec : {M : Type 1} → statement M
 store-front-spec =
     tie.close
-    (tie.spec (λ c. search needs) slice-write-d-2 slice-write-d-3 slice-write-d-4 (λ c. search needs) returns)
+    (tie.spec (λ c. search needs) (λ c. simp length-set (omega arith)) (λ c. simp length-set (omega arith)) (λ c. simp length-set (omega arith)) (λ c. search needs) returns)

@@ -37,8 +37,7 @@ returns-3 c =
 pub well-made-spec : {M : Type 1} → statement M
 well-made-spec =
     tie.close
-    (tie.spec
-    returns (λ c κs. search needs) returns-2 (λ c. search needs) (λ c. omega (arith, known (c .before) .1))
+    (tie.spec returns (λ c κs. search needs) returns-2 (λ c. search needs) (λ c. omega (arith, known (c .before) .1))
     (λ c. search needs) (λ c. search needs) (λ c κs. known (c .before .before .before) .1) (λ c κs. search needs)
     (λ c. omega (arith, known (c .before .before .before .before .before) .1))
     (λ c. omega (arith, known (c .before .before .before .before .before) .1))

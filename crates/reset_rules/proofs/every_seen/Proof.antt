@@ -18,7 +18,6 @@ every-seen-spec =
     tie.close
     (tie.spec
     (λ row marks ok₀ j₀ ok j. (j ≤ 8) × (ok ≡ every j (λ (k : ℕ). eqb (getD row k 0) 0 || getD marks k false)))
-    (λ row marks ok₀ j₀ ok j. 8 - j)
-    (λ c. (omega arith, sym (every-none _))) (λ c. search needs) (λ c. search needs) (λ c. search needs) (λ c. search needs)
-    (λ c. (omega arith, rw (every-turn, c .before .loop .inv .1)))
+    (λ row marks ok₀ j₀ ok j. 8 - j) (λ c. (omega arith, sym (every-none _))) (λ c. search needs) (λ c. search needs)
+    (λ c. search needs) (λ c. search needs) (λ c. (omega arith, rw (every-turn, c .before .loop .inv .1)))
     (λ c. let e : c .before .loop .j ≡ 8 = omega arith in rw e at (c .before .loop .inv .1)))

@@ -17,7 +17,6 @@ some-seen-spec =
     tie.close
     (tie.spec
     (λ row marks any₀ j₀ any j. (j ≤ 8) × (any ≡ some j (λ (k : ℕ). not (eqb (getD row k 0) 0) && getD marks k false)))
-    (λ row marks any₀ j₀ any j. 8 - j)
-    (λ c. (omega arith, sym (some-empty _))) (λ c. search needs) (λ c. search needs) (λ c. search needs) (λ c. search needs)
-    (λ c. (omega arith, rw (some-turn, c .before .loop .inv .1)))
+    (λ row marks any₀ j₀ any j. 8 - j) (λ c. (omega arith, sym (some-empty _))) (λ c. search needs) (λ c. search needs)
+    (λ c. search needs) (λ c. search needs) (λ c. (omega arith, rw (some-turn, c .before .loop .inv .1)))
     (λ c. let e : c .before .loop .j ≡ 8 = omega arith in rw e at (c .before .loop .inv .1)))

@@ -35,8 +35,5 @@ returns c = let e : c .before .loop .j ≡ 8 = omega arith in rw e at (c .before
 pub put-sent-spec : {M : Type 1} → statement M
 put-sent-spec =
     tie.close
-    (tie.spec
-    Inv-loop
-    μ-loop
-    loop-holds (λ c. search needs) (λ c. search needs) (λ c. search needs) (λ c. search needs)
+    (tie.spec Inv-loop μ-loop loop-holds (λ c. search needs) (λ c. search needs) (λ c. search needs) (λ c. search needs)
     (λ c. search needs) loop-again (λ c. search needs) returns)

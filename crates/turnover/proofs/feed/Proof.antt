@@ -54,10 +54,7 @@ returns-2 c =
 pub feed-spec : {M : Type 1} → statement M
 feed-spec =
     tie.close
-    (tie.spec
-    Inv-loop
-    μ-loop
-    loop-holds
+    (tie.spec Inv-loop μ-loop loop-holds
     (λ c κs. let i = c .before .before .before .before .before .before .before .loop .inv in (i .5, i .0, omega (arith, i .4), omega arith, i .1, i .6))
     (λ c. search needs)
     (λ c. let k = c .before .before .before .before .before .before .before .before .before in simp length-take (omega (arith, k .take-lines .ensures .1 .0 .room, k .before .before .before .before .before .before .before .before .loop .inv .3)))
@@ -66,5 +63,5 @@ feed-spec =
     (λ c. let l = c .before .before .before .before .before .before .before .before .before .before .before .before .before .before .before .before .before .before .before .before in omega (arith, l .loop .inv .1, l .before .before .before .before .before .before .pre .2))
     (λ c. omega (arith, c .before .before .before .before .before .before .before .before .before .before .before .before .before .before .before .before .before .before .before .before .loop .inv .2))
     (λ c. let l = c .before .before .before .before .before .before .before .before .before .before .before .before .before .before .before .before .before .before .before .before in omega (arith, l .loop .inv .3, l .before .before .before .before .before .before .pre .3))
-    returns loop-less loop-again (λ c κs. search needs) (λ c. search needs) (λ c. search needs)
-    (λ c. search needs) (λ c. search needs) returns-2)
+    returns loop-less loop-again (λ c κs. search needs) (λ c. search needs) (λ c. search needs) (λ c. search needs)
+    (λ c. search needs) returns-2)

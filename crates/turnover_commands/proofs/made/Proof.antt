@@ -21,6 +21,5 @@ returns-2 c = λ b a o e f.
 pub made-spec : {M : Type 1} → statement M
 made-spec =
     tie.close
-    (tie.spec
-    (λ c κs. search needs) returns (λ c. search needs) (λ c κs. search needs) (λ c κs. search needs)
+    (tie.spec (λ c κs. search needs) returns (λ c. search needs) (λ c κs. search needs) (λ c κs. search needs)
     (λ c. search needs) returns-2)

@@ -6,7 +6,5 @@ use Rattle.turnover_settings.proofs.allowed.Tie as tie
 pub allowed-spec : {M : Type 1} → statement M
 allowed-spec =
     tie.close
-    (tie.spec
-    (λ c. search needs) (λ c. search needs)
-    (λ c. rw (lt-ltb _ 8 (c .if1 .taken)))
+    (tie.spec (λ c. search needs) (λ c. search needs) (λ c. rw (lt-ltb _ 8 (c .if1 .taken)))
     (λ c. rw (le-ltb _ 8 (c .if1 .left))))

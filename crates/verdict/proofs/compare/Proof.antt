@@ -60,6 +60,5 @@ returns-5 c = rw ((sym (c .before .before .before .before .before .before .befor
 pub compare-spec : {M : Type 1} → statement M
 compare-spec =
     tie.close
-    (tie.spec
-    returns (λ c κs. search needs) returns-2 (λ c κs. search needs) returns-3 load-requires
-    load-requires-2 returns-4 (λ c κs. search needs) returns-5)
+    (tie.spec returns (λ c κs. search needs) returns-2 (λ c κs. search needs) returns-3 load-requires load-requires-2
+    returns-4 (λ c κs. search needs) returns-5)

@@ -50,8 +50,5 @@ returns c = λ d s r p.
 pub put-all-spec : {M : Type 1} → statement M
 put-all-spec =
     tie.close
-    (tie.spec
-    Inv-loop
-    μ-loop
-    (λ c. search needs) (λ c. c .before .pre .0) loop-holds put-linked-requires (λ c. search needs)
-    (λ c. search needs) loop-again (λ c. omega arith) returns)
+    (tie.spec Inv-loop μ-loop (λ c. search needs) (λ c. c .before .pre .0) loop-holds put-linked-requires
+    (λ c. search needs) (λ c. search needs) loop-again (λ c. omega arith) returns)

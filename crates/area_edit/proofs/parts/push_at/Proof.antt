@@ -23,6 +23,5 @@ returns c = λ d s p.
 pub push-at-spec : {M : Type 1} → statement M
 push-at-spec =
     tie.close
-    (tie.spec
-    (λ c κs. search needs) (λ c. search needs) (λ c. search needs) (λ c. search needs)
-    (λ c. search needs) push-requires (λ c. search needs) returns)
+    (tie.spec (λ c κs. search needs) (λ c. search needs) (λ c. search needs) (λ c. search needs) (λ c. search needs)
+    push-requires (λ c. search needs) returns)

@@ -24,6 +24,5 @@ returns c = λ d s x q p h.
 pub take-at-spec : {M : Type 1} → statement M
 take-at-spec =
     tie.close
-    (tie.spec
-    (λ c κs. search needs) (λ c. search needs) (λ c. search needs) (λ c. search needs)
-    (λ c. search needs) pop-requires (λ c. search needs) returns)
+    (tie.spec (λ c κs. search needs) (λ c. search needs) (λ c. search needs) (λ c. search needs) (λ c. search needs)
+    pop-requires (λ c. search needs) returns)

@@ -12,17 +12,11 @@ Inv-loop d₀ a b x₀ i₀ d x i = (i ≤ length d) × (length d ≡ length d�
 abbrev μ-loop : tie.MeasureT-loop
 μ-loop d₀ a b x₀ i₀ d x i = length d - i
 
-loop-less : tie.Need-loop-less Inv-loop μ-loop
-loop-less c = simp length-set (omega arith)
-
 loop-again : tie.Need-loop-again Inv-loop μ-loop
 loop-again c = (simp length-set (omega arith), simp length-set (omega arith))
 
 pub fill-spec : {M : Type 1} → statement M
 fill-spec =
     tie.close
-    (tie.spec
-    Inv-loop
-    μ-loop
-    (λ c. search needs) (λ c. search needs) (λ c κs. search needs) (λ c. search needs) loop-less
-    loop-again (λ c. search needs) (λ c. search needs))
+    (tie.spec Inv-loop μ-loop (λ c. search needs) (λ c. search needs) (λ c κs. search needs) (λ c. search needs)
+    (λ c. simp length-set (omega arith)) loop-again (λ c. search needs) (λ c. search needs))

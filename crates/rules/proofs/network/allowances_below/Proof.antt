@@ -16,9 +16,6 @@ Inv-loop n allowances top i₀ i = (i ≤ 8) × (every i (allowanceBelow n allow
 abbrev μ-loop : tie.MeasureT-loop
 μ-loop n allowances top i₀ i = 8 - i
 
-loop-holds : tie.Need-loop-holds Inv-loop μ-loop
-loop-holds c = (omega arith, every-none _)
-
 returns : tie.Need-returns Inv-loop μ-loop
 returns c =
     let l = c .before .before .loop in
@@ -37,8 +34,5 @@ returns-2 c =
 pub allowances-below-spec : {M : Type 1} → statement M
 allowances-below-spec =
     tie.close
-    (tie.spec
-    Inv-loop
-    μ-loop
-    loop-holds (λ c. search needs) (λ c. search needs) returns (λ c. search needs)
-    (λ c. search needs) loop-again returns-2)
+    (tie.spec Inv-loop μ-loop (λ c. (omega arith, every-none _)) (λ c. search needs) (λ c. search needs) returns
+    (λ c. search needs) (λ c. search needs) loop-again returns-2)

@@ -14,9 +14,6 @@ Inv-loop i limits s₀ j₀ s j = (j ≤ 8) × (s ≡ sum j (between limits i)) 
 abbrev μ-loop : tie.MeasureT-loop
 μ-loop i limits s₀ j₀ s j = 8 - j
 
-loop-holds : tie.Need-loop-holds Inv-loop μ-loop
-loop-holds c = (omega arith, sym (sum-none _), omega arith)
-
 loop-again : tie.Need-loop-again Inv-loop μ-loop
 unfolding limit
 loop-again c =
@@ -31,10 +28,7 @@ returns c =
 pub around-spec : {M : Type 1} → statement M
 around-spec =
     tie.close
-    (tie.spec
-    Inv-loop
-    μ-loop
-    loop-holds (λ c. search needs) (λ c. search needs) (λ c. search needs) (λ c. search needs)
-    (λ c. search needs) (λ c. search needs) (λ c κs. search needs) (λ c κs. search needs)
-    (λ c. search needs) (λ c. search needs) (λ c. search needs) (λ c. search needs) loop-again
-    returns)
+    (tie.spec Inv-loop μ-loop (λ c. (omega arith, sym (sum-none _), omega arith)) (λ c. search needs)
+    (λ c. search needs) (λ c. search needs) (λ c. search needs) (λ c. search needs) (λ c. search needs)
+    (λ c κs. search needs) (λ c κs. search needs) (λ c. search needs) (λ c. search needs) (λ c. search needs)
+    (λ c. search needs) loop-again returns)

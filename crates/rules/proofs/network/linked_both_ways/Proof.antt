@@ -16,9 +16,6 @@ Inv-loop limits i₀ i = (i ≤ 8) × (every i (λ (k : ℕ). every 8 (bothOrNon
 abbrev μ-loop : tie.MeasureT-loop
 μ-loop limits i₀ i = 8 - i
 
-loop-holds : tie.Need-loop-holds Inv-loop μ-loop
-loop-holds c = (omega arith, every-none _)
-
 returns : tie.Need-returns Inv-loop μ-loop
 unfolding linkedBothWays
 returns c =
@@ -39,8 +36,5 @@ returns-2 c =
 pub linked-both-ways-spec : {M : Type 1} → statement M
 linked-both-ways-spec =
     tie.close
-    (tie.spec
-    Inv-loop
-    μ-loop
-    loop-holds (λ c κs. search needs) returns (λ c. search needs) (λ c. search needs) loop-again
-    returns-2)
+    (tie.spec Inv-loop μ-loop (λ c. (omega arith, every-none _)) (λ c κs. search needs) returns (λ c. search needs)
+    (λ c. search needs) loop-again returns-2)

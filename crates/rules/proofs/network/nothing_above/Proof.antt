@@ -23,9 +23,6 @@ returns c =
     let e : every 8 (allowanceBelow (a .n) (a .allowances)) ≡ false = sym (c .before .allowances-below .ensures) ∙ not-true _ (c .if1 .taken) in
     rw e
 
-loop-holds : tie.Need-loop-holds Inv-loop μ-loop
-loop-holds c = (omega arith, every-none _)
-
 returns-2 : tie.Need-returns-2 Inv-loop μ-loop
 unfolding nothingAbove
 returns-2 c =
@@ -53,8 +50,5 @@ returns-3 c =
 pub nothing-above-spec : {M : Type 1} → statement M
 nothing-above-spec =
     tie.close
-    (tie.spec
-    Inv-loop
-    μ-loop
-    (λ c κs. search needs) returns loop-holds (λ c κs. search needs) returns-2 (λ c. search needs)
-    (λ c. search needs) loop-again returns-3)
+    (tie.spec Inv-loop μ-loop (λ c κs. search needs) returns (λ c. (omega arith, every-none _)) (λ c κs. search needs)
+    returns-2 (λ c. search needs) (λ c. search needs) loop-again returns-3)

@@ -17,9 +17,6 @@ Inv-loop n i limits top j₀ j = (j ≤ 8) × (every j (limitBelow n limits i) �
 abbrev μ-loop : tie.MeasureT-loop
 μ-loop n i limits top j₀ j = 8 - j
 
-loop-holds : tie.Need-loop-holds Inv-loop μ-loop
-loop-holds c = (omega arith, every-none _)
-
 returns : tie.Need-returns Inv-loop μ-loop
 unfolding limit
 returns c =
@@ -41,8 +38,5 @@ returns-2 c =
 pub row-below-spec : {M : Type 1} → statement M
 row-below-spec =
     tie.close
-    (tie.spec
-    Inv-loop
-    μ-loop
-    loop-holds (λ c. search needs) (λ c. search needs) (λ c. search needs) returns
-    (λ c. search needs) (λ c. search needs) loop-again returns-2)
+    (tie.spec Inv-loop μ-loop (λ c. (omega arith, every-none _)) (λ c. search needs) (λ c. search needs)
+    (λ c. search needs) returns (λ c. search needs) (λ c. search needs) loop-again returns-2)

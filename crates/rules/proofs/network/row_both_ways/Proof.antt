@@ -17,9 +17,6 @@ Inv-loop i limits j₀ j = (j ≤ 8) × (every j (bothOrNone limits i) ≡ true)
 abbrev μ-loop : tie.MeasureT-loop
 μ-loop i limits j₀ j = 8 - j
 
-loop-holds : tie.Need-loop-holds Inv-loop μ-loop
-loop-holds c = (omega arith, every-none _)
-
 returns : tie.Need-returns Inv-loop μ-loop
 unfolding limit
 returns c =
@@ -41,9 +38,6 @@ returns-2 c =
 pub row-both-ways-spec : {M : Type 1} → statement M
 row-both-ways-spec =
     tie.close
-    (tie.spec
-    Inv-loop
-    μ-loop
-    loop-holds (λ c. search needs) (λ c. search needs) (λ c. search needs) (λ c. search needs)
-    (λ c. search needs) (λ c. search needs) returns (λ c. search needs) (λ c. search needs)
-    loop-again returns-2)
+    (tie.spec Inv-loop μ-loop (λ c. (omega arith, every-none _)) (λ c. search needs) (λ c. search needs)
+    (λ c. search needs) (λ c. search needs) (λ c. search needs) (λ c. search needs) returns (λ c. search needs)
+    (λ c. search needs) loop-again returns-2)

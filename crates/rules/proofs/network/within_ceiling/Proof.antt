@@ -17,9 +17,6 @@ Inv-loop t limits allowances ceiling i₀ i = (i ≤ 8) × (every i (withinAt t 
 abbrev μ-loop : tie.MeasureT-loop
 μ-loop t limits allowances ceiling i₀ i = 8 - i
 
-loop-holds : tie.Need-loop-holds Inv-loop μ-loop
-loop-holds c = (omega arith, every-none _)
-
 returns : tie.Need-returns Inv-loop μ-loop
 unfolding withinCeiling
 returns c =
@@ -44,9 +41,6 @@ returns-2 c =
 pub within-ceiling-spec : {M : Type 1} → statement M
 within-ceiling-spec =
     tie.close
-    (tie.spec
-    Inv-loop
-    μ-loop
-    (λ c κs. search needs) loop-holds (λ c. search needs) (λ c. search needs) (λ c κs. search needs)
-    (λ c κs. search needs) (λ c. search needs) returns (λ c. search needs) (λ c. search needs)
-    loop-again returns-2)
+    (tie.spec Inv-loop μ-loop (λ c κs. search needs) (λ c. (omega arith, every-none _)) (λ c. search needs)
+    (λ c. search needs) (λ c κs. search needs) (λ c κs. search needs) (λ c. search needs) returns (λ c. search needs)
+    (λ c. search needs) loop-again returns-2)

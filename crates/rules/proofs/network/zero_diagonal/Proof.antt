@@ -17,9 +17,6 @@ Inv-loop limits k₀ k = (k ≤ 8) × (every k (zeroAt limits) ≡ true)
 abbrev μ-loop : tie.MeasureT-loop
 μ-loop limits k₀ k = 8 - k
 
-loop-holds : tie.Need-loop-holds Inv-loop μ-loop
-loop-holds c = (omega arith, every-none _)
-
 returns : tie.Need-returns Inv-loop μ-loop
 unfolding zeroDiagonal limit
 returns c =
@@ -41,8 +38,5 @@ returns-2 c =
 pub zero-diagonal-spec : {M : Type 1} → statement M
 zero-diagonal-spec =
     tie.close
-    (tie.spec
-    Inv-loop
-    μ-loop
-    loop-holds (λ c. search needs) (λ c. search needs) (λ c. search needs) returns
-    (λ c. search needs) (λ c. search needs) loop-again returns-2)
+    (tie.spec Inv-loop μ-loop (λ c. (omega arith, every-none _)) (λ c. search needs) (λ c. search needs)
+    (λ c. search needs) returns (λ c. search needs) (λ c. search needs) loop-again returns-2)

@@ -17,12 +17,6 @@ Inv-loop n top seen i₀ i = (i ≤ top) × (top ≤ 8) × (every i (isSeen seen
 abbrev μ-loop : tie.MeasureT-loop
 μ-loop n top seen i₀ i = top - i
 
-returns : tie.Need-returns Inv-loop μ-loop
-returns c = sym (not-above _ _ (c .if1 .taken))
-
-loop-holds : tie.Need-loop-holds Inv-loop μ-loop
-loop-holds c = (omega arith, omega arith, every-none _)
-
 returns-3 : tie.Need-returns-3 Inv-loop μ-loop
 unfolding everyReached
 returns-3 c =
@@ -45,8 +39,7 @@ returns-4 c =
 pub every-reached-spec : {M : Type 1} → statement M
 every-reached-spec =
     tie.close
-    (tie.spec
-    Inv-loop
-    μ-loop
-    returns (λ c κs. search needs) (λ c. sym (c .before .in-order .ensures (c .if2 .taken))) (λ c κs. search needs) loop-holds (λ c. search needs) returns-3 (λ c. search needs)
+    (tie.spec Inv-loop μ-loop (λ c. sym (not-above _ _ (c .if1 .taken))) (λ c κs. search needs)
+    (λ c. sym (c .before .in-order .ensures (c .if2 .taken))) (λ c κs. search needs)
+    (λ c. (omega arith, omega arith, every-none _)) (λ c. search needs) returns-3 (λ c. search needs)
     (λ c. search needs) loop-again returns-4)

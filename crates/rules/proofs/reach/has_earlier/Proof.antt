@@ -21,8 +21,5 @@ returns c = λ _. (c .before .before .before .loop .i, omega arith, ap not (ne-e
 pub has-earlier-spec : {M : Type 1} → statement M
 has-earlier-spec =
     tie.close
-    (tie.spec
-    Inv-loop
-    μ-loop
-    (λ c. omega arith) (λ c. search needs) (λ c. search needs) (λ c. search needs) returns (λ c. search needs)
-    (λ c. search needs) (λ c. omega arith) (λ c. λ e. absurd (true≢false (sym e))))
+    (tie.spec Inv-loop μ-loop (λ c. omega arith) (λ c. search needs) (λ c. search needs) (λ c. search needs) returns
+    (λ c. search needs) (λ c. search needs) (λ c. omega arith) (λ c. λ e. absurd (true≢false (sym e))))

@@ -15,9 +15,6 @@ Inv-loop n limits top j₀ j = Reached j limits
 abbrev μ-loop : tie.MeasureT-loop
 μ-loop n limits top j₀ j = top - j
 
-loop-holds : tie.Need-loop-holds Inv-loop μ-loop
-loop-holds c = λ i h. let e : i ≡ 0 = omega arith in rw e here
-
 loop-again : tie.Need-loop-again Inv-loop μ-loop
 loop-again c =
     let l = c .before .before .before .loop in
@@ -31,8 +28,5 @@ returns c = λ _.
 pub in-order-spec : {M : Type 1} → statement M
 in-order-spec =
     tie.close
-    (tie.spec
-    Inv-loop
-    μ-loop
-    loop-holds (λ c κs. search needs) (λ c. λ e. absurd (true≢false (sym e))) (λ c. search needs)
-    (λ c. search needs) loop-again returns)
+    (tie.spec Inv-loop μ-loop (λ c. λ i h. let e : i ≡ 0 = omega arith in rw e here) (λ c κs. search needs)
+    (λ c. λ e. absurd (true≢false (sym e))) (λ c. search needs) (λ c. search needs) loop-again returns)

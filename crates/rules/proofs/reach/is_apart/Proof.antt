@@ -15,9 +15,6 @@ Inv-loop j m seen i₀ i = (i ≤ 8) × (every i (λ (k : ℕ). not (isSeen seen
 abbrev μ-loop : tie.MeasureT-loop
 μ-loop j m seen i₀ i = 8 - i
 
-loop-holds : tie.Need-loop-holds Inv-loop μ-loop
-loop-holds c = (omega arith, every-none _)
-
 returns : tie.Need-returns Inv-loop μ-loop
 unfolding apart linked limit
 returns c = sym (every-fails 8 _ (c .before .before .before .loop .i) (omega arith) (ap not (c .if1 .taken)))
@@ -33,8 +30,5 @@ returns-2 c = let e : c .before .loop .i ≡ 8 = omega arith in sym (rw e at (c 
 pub is-apart-spec : {M : Type 1} → statement M
 is-apart-spec =
     tie.close
-    (tie.spec
-    Inv-loop
-    μ-loop
-    loop-holds (λ c. search needs) (λ c. search needs) (λ c. search needs) (λ c. search needs)
-    returns (λ c. search needs) (λ c. search needs) loop-again returns-2)
+    (tie.spec Inv-loop μ-loop (λ c. (omega arith, every-none _)) (λ c. search needs) (λ c. search needs)
+    (λ c. search needs) (λ c. search needs) returns (λ c. search needs) (λ c. search needs) loop-again returns-2)

@@ -15,9 +15,6 @@ Inv-loop m seen j₀ j = (j ≤ 8) × ((k : ℕ) → k < j → joins m seen k �
 abbrev μ-loop : tie.MeasureT-loop
 μ-loop m seen j₀ j = 8 - j
 
-loop-holds : tie.Need-loop-holds Inv-loop μ-loop
-loop-holds c = (omega arith, below-none _)
-
 returns : tie.Need-returns Inv-loop μ-loop
 returns c = let l = c .before .before .before .loop in sym (first-at 8 _ (l .j) (omega arith) (l .inv .1) (sym (c .before .does-join .ensures) ∙ c .if1 .taken))
 
@@ -34,8 +31,5 @@ returns-2 c =
 pub next-spec : {M : Type 1} → statement M
 next-spec =
     tie.close
-    (tie.spec
-    Inv-loop
-    μ-loop
-    loop-holds (λ c κs. search needs) returns (λ c. search needs) (λ c. search needs) loop-again
-    returns-2)
+    (tie.spec Inv-loop μ-loop (λ c. (omega arith, below-none _)) (λ c κs. search needs) returns (λ c. search needs)
+    (λ c. search needs) loop-again returns-2)

@@ -2,8 +2,5 @@ use borrow.Author.Needs.{needs}
 use Rattle.steps.proofs.answer.refused.Statement.{statement}
 use Rattle.steps.proofs.answer.refused.Tie as tie
 
-returns : tie.Need-returns
-returns c = cc
-
 pub refused-spec : {M : Type 1} → statement M
-refused-spec = tie.close (tie.spec (λ c κs. search needs) returns)
+refused-spec = tie.close (tie.spec (λ c κs. search needs) (λ c. cc))

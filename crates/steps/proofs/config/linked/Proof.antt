@@ -25,6 +25,5 @@ returns-3 c = rw (lt-ltb _ _ (below (c .before .before)), lt-ltb _ 8 (c .before 
 pub linked-spec : {M : Type 1} → statement M
 linked-spec =
     tie.close
-    (tie.spec
-    (λ c κs. search needs) returns returns-2 (λ c. search needs) (λ c. search needs)
-    (λ c. search needs) returns-3)
+    (tie.spec (λ c κs. search needs) returns returns-2 (λ c. search needs) (λ c. search needs) (λ c. search needs)
+    returns-3)

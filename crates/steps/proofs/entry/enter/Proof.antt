@@ -93,12 +93,10 @@ returns-4 c =
 pub enter-spec : {M : Type 1} → statement M
 enter-spec =
     tie.close
-    (tie.spec
-    (λ c κs. search needs) (λ c κs. search needs) (λ c κs. search needs) (λ c. search needs) returns
-    (λ c κs. let k = at (c .before) in (k .area .long, k .i-small))
-    (λ c. search needs) (λ c. at (c .before .before .before) .i-small) (λ c κs. search needs)
-    (λ c. search needs) returns-2 (λ c. search needs)
-    (λ c. at (c .before .before .before .before .before .before) .i-small) (λ c κs. search needs)
+    (tie.spec (λ c κs. search needs) (λ c κs. search needs) (λ c κs. search needs) (λ c. search needs) returns
+    (λ c κs. let k = at (c .before) in (k .area .long, k .i-small)) (λ c. search needs)
+    (λ c. at (c .before .before .before) .i-small) (λ c κs. search needs) (λ c. search needs) returns-2
+    (λ c. search needs) (λ c. at (c .before .before .before .before .before .before) .i-small) (λ c κs. search needs)
     (λ c. search needs) returns-3 entered-requires
     (λ c κs. let k = at (c .before .before .before .before .before .before .before .before .before .before) in (k .area .long, k .i-small))
     (λ c. search needs) (λ c κs. search needs) (λ c. search needs) returns-4)

@@ -119,12 +119,10 @@ returns-3 c =
 pub send-spec : {M : Type 1} → statement M
 send-spec =
     tie.close
-    (tie.spec
-    (λ c κs. search needs) (λ c κs. search needs)
-    (λ c κs. n-small (known c) (c .before .before .header-of .ensures))
-    (λ c κs. search needs) (λ c. search needs) returns (λ c. search needs) (λ c. at c .i-small)
+    (tie.spec (λ c κs. search needs) (λ c κs. search needs)
+    (λ c κs. n-small (known c) (c .before .before .header-of .ensures)) (λ c κs. search needs) (λ c. search needs)
+    returns (λ c. search needs) (λ c. at c .i-small)
     (λ c κs. let k = at (c .before .before) in (k .area .long, k .i-small))
     (λ c κs. let k = at (c .before .before .before .before) in (k .area .long, k .i-small, k .j-small))
-    (λ c. at (c .before .before .before .before .before) .j-small) send-refusal-requires
-    (λ c κs. search needs) (λ c. search needs) returns-2 send-message-requires (λ c. search needs)
-    returns-3)
+    (λ c. at (c .before .before .before .before .before) .j-small) send-refusal-requires (λ c κs. search needs)
+    (λ c. search needs) returns-2 send-message-requires (λ c. search needs) returns-3)

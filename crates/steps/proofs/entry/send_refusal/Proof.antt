@@ -41,7 +41,5 @@ returns-5 c =
 pub send-refusal-spec : {M : Type 1} → statement M
 send-refusal-spec =
     tie.close
-    (tie.spec
-    (λ c. search needs) (λ c κs. search needs) returns (λ c. search needs) returns-2
-    (λ c. search needs) (λ c. search needs) returns-3 (λ c κs. search needs) (λ c κs. search needs)
-    returns-4 returns-5)
+    (tie.spec (λ c. search needs) (λ c κs. search needs) returns (λ c. search needs) returns-2 (λ c. search needs)
+    (λ c. search needs) returns-3 (λ c κs. search needs) (λ c κs. search needs) returns-4 returns-5)

@@ -58,10 +58,7 @@ take-requires c κs =
 pub recv-spec : {M : Type 1} → statement M
 recv-spec =
     tie.close
-    (tie.spec
-    (λ c κs. search needs) (λ c κs. search needs)
-    (λ c κs. n-small (known c) (c .before .before .header-of .ensures))
-    (λ c κs. search needs) (λ c. search needs) returns
-    (λ c κs. let k = at (c .before) in (k .area .long, k .j-small, k .i-small))
-    (λ c κs. search needs) (λ c. search needs) returns-2 take-requires (λ c. search needs)
-    (λ c. search needs))
+    (tie.spec (λ c κs. search needs) (λ c κs. search needs)
+    (λ c κs. n-small (known c) (c .before .before .header-of .ensures)) (λ c κs. search needs) (λ c. search needs)
+    returns (λ c κs. let k = at (c .before) in (k .area .long, k .j-small, k .i-small)) (λ c κs. search needs)
+    (λ c. search needs) returns-2 take-requires (λ c. search needs) (λ c. search needs))

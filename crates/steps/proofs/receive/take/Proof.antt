@@ -83,11 +83,10 @@ returns-3 c =
 pub take-spec : {M : Type 1} → statement M
 take-spec =
     tie.close
-    (tie.spec
-    (λ c κs. let k = at (c .before) in (k .area .long, k .j-small, k .i-small))
+    (tie.spec (λ c κs. let k = at (c .before) in (k .area .long, k .j-small, k .i-small))
     (λ c κs. let k = at (c .before .before .before) in (k .area .long, k .i-small))
     (λ c κs. at (o (c .before .before .before)) .j-small) take-control-requires (λ c. search needs) returns
-    (λ c κs. at (o (c .before .before .before .before .before)) .j-small) take-control-requires-2
-    (λ c. search needs) returns-2
+    (λ c κs. at (o (c .before .before .before .before .before)) .j-small) take-control-requires-2 (λ c. search needs)
+    returns-2
     (λ c κs. let l = c .before .before .before .before .before in (g (o l) .pre .0, ap (λ (x : Config). x .t) (g (o l) .pre .1), sym (x l)))
     (λ c. search needs) returns-3)

@@ -76,7 +76,6 @@ returns-2 c = λ y q e time marks.
 pub take-control-spec : {M : Type 1} → statement M
 take-control-spec =
     tie.close
-    (tie.spec
-    (λ c κs. (at c .i-small, c .before .pre .2)) (λ c. let k = at (c .before) in omega arith) (λ c. at (c .before) .i-small)
-    (λ c κs. let k = at (c .before .before .before) in (k .area .long, k .i-small)) (λ c κs. search needs)
-    (λ c. search needs) returns take-at-requires settle-requires (λ c. search needs) returns-2)
+    (tie.spec (λ c κs. (at c .i-small, c .before .pre .2)) (λ c. let k = at (c .before) in omega arith)
+    (λ c. at (c .before) .i-small) (λ c κs. let k = at (c .before .before .before) in (k .area .long, k .i-small))
+    (λ c κs. search needs) (λ c. search needs) returns take-at-requires settle-requires (λ c. search needs) returns-2)

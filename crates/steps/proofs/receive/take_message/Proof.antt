@@ -75,8 +75,7 @@ returns-2 c = λ q e.
 pub take-message-spec : {M : Type 1} → statement M
 take-message-spec =
     tie.close
-    (tie.spec
-    (λ c. let k = at (c .before) in omega arith) (λ c. at (c .before) .i-small) (λ c κs. search needs) returns
+    (tie.spec (λ c. let k = at (c .before) in omega arith) (λ c. at (c .before) .i-small) (λ c κs. search needs) returns
     (λ c κs. (at (c .before .before .before) .i-small, omega (arith, c .before .if1 .left))) take-at-requires
     put-station-requires
     (λ c. let k = at (c .before .before .before .before .before .before .before .before .before .before .before .before) in omega (arith, k .i-small))

@@ -123,13 +123,10 @@ returns-5 c =
 pub start-spec : {M : Type 1} → statement M
 start-spec =
     tie.close
-    (tie.spec
-    (λ c κs. search needs) (λ c κs. search needs) (λ c κs. search needs) (λ c. search needs) returns
+    (tie.spec (λ c κs. search needs) (λ c κs. search needs) (λ c κs. search needs) (λ c. search needs) returns
     (λ c κs. search needs) (λ c κs. let k = at (c .before .before .before) in (k .area .long, k .i-small))
-    (λ c κs. search needs) (λ c κs. search needs) (λ c. search needs) returns-2
-    (λ c κs. search needs) (λ c. search needs) returns-3
-    (λ c κs. (at (o (c .before .before .before)) .i-small, omega (arith, c .if3 .left))) (λ c. search needs)
-    (λ c. at (o (c .before .before .before .before)) .i-small)
+    (λ c κs. search needs) (λ c κs. search needs) (λ c. search needs) returns-2 (λ c κs. search needs)
+    (λ c. search needs) returns-3 (λ c κs. (at (o (c .before .before .before)) .i-small, omega (arith, c .if3 .left)))
+    (λ c. search needs) (λ c. at (o (c .before .before .before .before)) .i-small)
     (λ c κs. let k = at (o (c .before .before .before .before .before .before)) in (k .area .long, k .i-small))
-    (λ c κs. search needs) (λ c. search needs) returns-4 settle-requires (λ c. search needs)
-    returns-5)
+    (λ c κs. search needs) (λ c. search needs) returns-4 settle-requires (λ c. search needs) returns-5)

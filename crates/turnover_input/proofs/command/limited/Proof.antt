@@ -10,5 +10,4 @@ limited-spec =
     (λ c. omega (arith, below3 (c .before .args .i) 8 (c .before .args .j) 8 (c .before .args .l) 256 (c .if1 .taken)))
     (λ c. omega (arith, below3 (c .before .args .i) 8 (c .before .args .j) 8 (c .before .args .l) 256 (c .if1 .taken)))
     (λ c. omega (arith, below3 (c .before .args .i) 8 (c .before .args .j) 8 (c .before .args .l) 256 (c .if1 .taken)))
-    (λ c. rw (c .if1 .taken))
-    (λ c. rw (c .if1 .left)))
+    (λ c. rw (c .if1 .taken)) (λ c. rw (c .if1 .left)))

@@ -17,9 +17,6 @@ cast-t12 c = omega (arith, below3 (c .before .before .x .given .0 .0) 8 (c .befo
 pub send-spec : {M : Type 1} → statement M
 send-spec =
     tie.close
-    (tie.spec
-    (λ c. search needs)
-    (λ c. not-three Send (c .before .args .x) (c .match .keys2))
-    cast-t10 cast-t11 cast-t12
-    (λ c. rw (c .before .before .x .given .1, c .if1 .taken))
+    (tie.spec (λ c. search needs) (λ c. not-three Send (c .before .args .x) (c .match .keys2)) cast-t10 cast-t11
+    cast-t12 (λ c. rw (c .before .before .x .given .1, c .if1 .taken))
     (λ c. rw (c .before .before .x .given .1, c .if1 .left)))

@@ -22,8 +22,7 @@ loop-again c = agree _ _ (c .before .before .before .before .before .loop .i) (o
 pub starts-spec : {M : Type 1} → statement M
 starts-spec =
     tie.close
-    (tie.spec
-    Inv-loop μ-loop (λ c. refl)
+    (tie.spec Inv-loop μ-loop (λ c. refl)
     (λ c. line-out _ _ (c .before .before .loop .i) (c .before .loop-test .taken) (c .if1 .taken) ∙ c .before .before .loop .inv)
     (λ c. omega arith) (λ c. omega arith) returns-2 (λ c. omega arith) (λ c. omega arith) loop-again
     (λ c. word-out _ _ (c .before .loop .i) (omega arith) ∙ c .before .loop .inv))

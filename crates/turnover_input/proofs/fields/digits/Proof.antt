@@ -48,10 +48,7 @@ loop-again c =
 pub digits-spec : {M : Type 1} → statement M
 digits-spec =
     tie.close
-    (tie.spec
-    Inv-loop μ-loop
-    (λ c. (omega arith, refl))
-    (λ c. search needs) (λ c κs. search needs) returns
-    (λ c. omega (arith, c .before .before .before .before .loop .inv))
-    (λ c κs. search needs) sub-w add-w returns-2 (λ c. search needs) (λ c. search needs) loop-again
+    (tie.spec Inv-loop μ-loop (λ c. (omega arith, refl)) (λ c. search needs) (λ c κs. search needs) returns
+    (λ c. omega (arith, c .before .before .before .before .loop .inv)) (λ c κs. search needs) sub-w add-w returns-2
+    (λ c. search needs) (λ c. search needs) loop-again
     (λ c. ends _ _ (c .before .loop .i) (omega arith) ∙ c .before .loop .inv .1))

@@ -15,9 +15,8 @@ returns-3 c =
 pub number-at-spec : {M : Type 1} → statement M
 number-at-spec =
     tie.close
-    (tie.spec
-    (λ c. first-none _ (c .before .before .args .at) (c .if1 .taken))
-    (λ c. search needs) (λ c κs. search needs)
+    (tie.spec (λ c. first-none _ (c .before .before .args .at) (c .if1 .taken)) (λ c. search needs)
+    (λ c κs. search needs)
     (λ c. first-bare _ (c .before .before .before .before .before .args .at) (omega arith) (sym (c .before .is-digit .ensures) ∙ not-true _ (c .if2 .taken)))
     (λ c. search needs) (λ c κs. search needs)
     (λ c. omega (arith, c .wide .ensures, digit-range _ (sym (c .before .before .is-digit .ensures) ∙ not-false _ (c .before .if2 .left))))

@@ -8,7 +8,5 @@ use Rattle.turnover_input.proofs.lines.said.Tie as tie
 pub said-spec : {M : Type 1} → statement M
 said-spec =
     tie.close
-    (tie.spec
-    (λ c. simp length-take (omega arith))
-    (λ c κs. search needs)
+    (tie.spec (λ c. simp length-take (omega arith)) (λ c κs. search needs)
     (λ c. kept-means _ _ (c .parse .result) (c .parse .ensures .1)))

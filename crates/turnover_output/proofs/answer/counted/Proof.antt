@@ -47,18 +47,9 @@ returns c =
 pub counted-spec : {M : Type 1} → statement M
 counted-spec =
     tie.close
-    (tie.spec
-    Inv-loop
-    μ-loop
-    (λ c. (omega arith, omega arith, omega arith, refl, text-none (omega arith)))
-    (λ c. search needs)
-    (λ c κs. omega (arith, below (c .before .before)))
-    (λ c. search needs)
-    (λ c. omega (arith, below (counting c)))
-    (λ c κs. search needs)
+    (tie.spec Inv-loop μ-loop (λ c. (omega arith, omega arith, omega arith, refl, text-none (omega arith)))
+    (λ c. search needs) (λ c κs. omega (arith, below (c .before .before))) (λ c. search needs)
+    (λ c. omega (arith, below (counting c))) (λ c κs. search needs)
     (λ c κs. omega (arith, below (counting (c .before)), length16 (c .wide .result) (c .wide .ensures .1)))
-    (λ c. omega (arith, below (counted c)))
-    (λ c. omega (arith, below (counted c)))
-    loop-again
-    (λ c. search needs)
+    (λ c. omega (arith, below (counted c))) (λ c. omega (arith, below (counted c))) loop-again (λ c. search needs)
     returns)

@@ -20,7 +20,6 @@ returns-3 c = let w = c .before .before .word3 .ensures in (rw (ne-eqb _ _ (c .b
 pub mode-word-spec : {M : Type 1} → statement M
 mode-word-spec =
     tie.close
-    (tie.spec
-    (λ c. search needs) (λ c κs. search needs) (λ c. search needs) returns (λ c. search needs)
-    (λ c κs. search needs) (λ c. search needs) returns-2 (λ c. search needs) (λ c κs. search needs)
-    (λ c. search needs) returns-3)
+    (tie.spec (λ c. search needs) (λ c κs. search needs) (λ c. search needs) returns (λ c. search needs)
+    (λ c κs. search needs) (λ c. search needs) returns-2 (λ c. search needs) (λ c κs. search needs) (λ c. search needs)
+    returns-3)

@@ -42,12 +42,9 @@ returns c =
 pub opening-spec : {M : Type 1} → statement M
 opening-spec =
     tie.close
-    (tie.spec
-    (λ c κs. omega (arith, digits (c .before .before .before)))
+    (tie.spec (λ c κs. omega (arith, digits (c .before .before .before)))
     (λ c κs. omega (arith, digits (first (c .before .before .before))))
-    (λ c κs. omega (arith, digits (first (second (c .before .before .before)))))
-    (λ c. search needs)
+    (λ c κs. omega (arith, digits (first (second (c .before .before .before))))) (λ c. search needs)
     (λ c κs. omega (arith, digits (first (second (third (c .before .before .before .before))))))
-    (λ c κs. omega (arith, digits (first (second (third (fourth (c .before .before .before)))))))
-    (λ c. search needs)
+    (λ c κs. omega (arith, digits (first (second (third (fourth (c .before .before .before))))))) (λ c. search needs)
     returns)

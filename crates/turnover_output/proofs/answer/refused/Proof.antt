@@ -38,12 +38,8 @@ returns c =
 pub refused-spec : {M : Type 1} → statement M
 refused-spec =
     tie.close
-    (tie.spec
-    (λ c κs. omega (arith, digits (c .before .before)))
-    (λ c. search needs)
+    (tie.spec (λ c κs. omega (arith, digits (c .before .before))) (λ c. search needs)
     (λ c κs. omega (arith, digits (first (c .before .before .before .before))))
-    (λ c κs. omega (arith, digits (first (second (c .before .before .before)))))
-    (λ c. search needs)
-    (λ c κs. omega (arith, digits (first (second (third (c .before .before .before .before))))))
-    (λ c. search needs)
+    (λ c κs. omega (arith, digits (first (second (c .before .before .before))))) (λ c. search needs)
+    (λ c κs. omega (arith, digits (first (second (third (c .before .before .before .before)))))) (λ c. search needs)
     returns)

@@ -20,11 +20,8 @@ returns c =
 pub setup-refused-spec : {M : Type 1} → statement M
 setup-refused-spec =
     tie.close
-    (tie.spec
-    (λ c. search needs)
-    (λ c κs. search needs)
+    (tie.spec (λ c. search needs) (λ c κs. search needs)
     (λ c κs. omega (arith, length8 _ (c .before .before .before .before .before .before .before .fits .refusal)))
     (λ c. search needs)
     (λ c κs. omega (arith, length8 _ (c .before .before .before .before .before .before .before .before .before .before .before .before .fits .refusal)))
-    (λ c. search needs)
-    returns)
+    (λ c. search needs) returns)
