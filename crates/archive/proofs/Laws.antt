@@ -11,7 +11,7 @@ use borrow.Author.Tests.{eqb-true, ne-eqb}
 use Rattle.codec.proofs.EveryLaws.{both, every-at}
 use Rattle.header.specs.Header.{parseHeader, tableAt, wellMadeHeader}
 use Rattle.header.proofs.Laws.{well-made-length}
-use Rattle.entries.specs.Entries.{countOf, blockNumber, wellMadeEntries}
+use Rattle.entries.specs.Entries.{countOf, storedNumber, wellMadeEntries}
 use Rattle.archive.specs.Archive.{blockOf, blocks, allKnown, blockFits, blocksFit, archiveTest}
 
 -- fewer than 512 bytes have no header
@@ -44,13 +44,13 @@ test-blocks a h = omega (arith, test-parts a h .0, test-long a h)
 
 -- each block fits its place
 pub block-parts : (a : List ℕ) → archiveTest a ≡ true → (b : ℕ) → b < blocks a
-    → (wellMadeEntries (blockOf a b) ≡ true) × (blockNumber (blockOf a b) ≡ b + 1) × ((eqb (b + 1) (blocks a) || eqb (countOf (blockOf a b)) 15) ≡ true)
+    → (wellMadeEntries (blockOf a b) ≡ true) × (storedNumber (blockOf a b) ≡ b + 1) × ((eqb (b + 1) (blocks a) || eqb (countOf (blockOf a b)) 15) ≡ true)
     × (allKnown (parseHeader (take 512 a)) (tableAt 8 (take 512 a) 32) (blockOf a b) ≡ true)
 unfolding blocksFit blockFits
 block-parts a h b l =
     let w = every-at (blocks a) _ b (test-parts a h .2) l in
     let p = both (wellMadeEntries (blockOf a b)) _ w in
-    let q = both (eqb (blockNumber (blockOf a b)) (b + 1)) _ (p .1) in
+    let q = both (eqb (storedNumber (blockOf a b)) (b + 1)) _ (p .1) in
     let r = both (eqb (b + 1) (blocks a) || eqb (countOf (blockOf a b)) 15) _ (q .1) in
     (p .0, eqb-true _ _ (q .0), r .0, r .1)
 

@@ -21,7 +21,7 @@ use Rattle.header.specs.declared.Header.{Header}
 use Rattle.record.specs.Record.{peerFits, recordFits, parseRecord, wellMadeRecord}
 use Rattle.record.proofs.Laws.{well-made-parts}
 use Rattle.entries.specs.Starts.{recordStart, recordsEnd}
-use Rattle.entries.specs.Entries.{countOf, blockNumber, recordOf, frontFits, tailFits, bodyFits, wellMadeEntries}
+use Rattle.entries.specs.Entries.{countOf, storedNumber, recordOf, frontFits, tailFits, bodyFits, wellMadeEntries}
 use Rattle.entries.proofs.Laws.{start-is, end-is, front-parts}
 use Rattle.archive.specs.Archive.{peerKnown, recordKnown, allKnown, blockFits}
 use Rattle.archive.specs.Sweep.{countAt, countsTest, Fronts, placeOf, frontTest, spareTest, phaseTest, recordTest, Looked}
@@ -256,12 +256,12 @@ module _ (l : List ℕ) (sized : length l ≡ 512) (bytes : AreBytes l) where
         ∙ every-both (λ (k : ℕ). t k && c k) t c (λ (k : ℕ). refl) count)
 
     pub block-law : (number : ℕ) (last : Bool) → frontFits l ≡ true → blockFits h m number last l
-        ≡ (eqb (blockNumber l) number && ((last || eqb (countOf l) 15) && (tailFits l (countOf l) && (countsTest (h .n) (h .t) l && every (countOf l) (λ (k : ℕ). recordTest f (recordOf l k))))))
+        ≡ (eqb (storedNumber l) number && ((last || eqb (countOf l) 15) && (tailFits l (countOf l) && (countsTest (h .n) (h .t) l && every (countOf l) (λ (k : ℕ). recordTest f (recordOf l k))))))
     unfolding blockFits wellMadeEntries bodyFits allKnown
     block-law number last front =
         let p = front-parts l front in
         rw (eq-eqb (length l) 512 sized, front)
-        (gather (every (countOf l) (λ (k : ℕ). wellMadeRecord (recordOf l k))) (tailFits l (countOf l)) (eqb (blockNumber l) number) (last || eqb (countOf l) 15) (every (countOf l) (λ (k : ℕ). recordKnown h m (parseRecord (recordOf l k)))) (countsTest (h .n) (h .t) l) (every (countOf l) (λ (k : ℕ). recordTest f (recordOf l k))) (λ (z : tailFits l (countOf l) ≡ true). records-law (countOf l) (p .2) (p .3) z))
+        (gather (every (countOf l) (λ (k : ℕ). wellMadeRecord (recordOf l k))) (tailFits l (countOf l)) (eqb (storedNumber l) number) (last || eqb (countOf l) 15) (every (countOf l) (λ (k : ℕ). recordKnown h m (parseRecord (recordOf l k)))) (countsTest (h .n) (h .t) l) (every (countOf l) (λ (k : ℕ). recordTest f (recordOf l k))) (λ (z : tailFits l (countOf l) ≡ true). records-law (countOf l) (p .2) (p .3) z))
 
 pub block-refused : (h : Header) (m : List (List ℕ)) (l : List ℕ) (number : ℕ) (last : Bool) → frontFits l ≡ false → blockFits h m number last l ≡ false
 unfolding blockFits wellMadeEntries

@@ -11,9 +11,9 @@ use Rattle.record.specs.declared.Record.{Record}
 use Rattle.header.specs.Header.{parseHeader, tableAt, wellMadeHeader}
 use Rattle.header.specs.declared.Header.{Header}
 use Rattle.entries.specs.Starts.{recordStart}
-use Rattle.entries.specs.Entries.{countOf, blockNumber, recordOf, wellMadeEntries}
+use Rattle.entries.specs.Entries.{countOf, storedNumber, recordOf, wellMadeEntries}
 use Rattle.archive.specs.declared.Counted.{Counted}
-use Rattle.archive.specs.declared.Counted.the-variants.{Records, Refused}
+use Rattle.archive.specs.declared.Counted.the-variants.{Count, Refused}
 
 -- ---- what a record may name
 -- there is a link from i to j
@@ -46,7 +46,7 @@ allKnown h m l = every (countOf l) (λ (k : ℕ). recordKnown h m (parseRecord (
 -- a well-made block with the right number, full where it is not the last, whose records name what the header has
 unfoldable pub blockFits : Header → List (List ℕ) → ℕ → Bool → List ℕ → Bool
 blockFits h m number last l =
-    wellMadeEntries l && (eqb (blockNumber l) number && ((last || eqb (countOf l) 15) && allKnown h m l))
+    wellMadeEntries l && (eqb (storedNumber l) number && ((last || eqb (countOf l) 15) && allKnown h m l))
 
 -- n entries blocks behind the header, numbered 1, 2, 3 ..; only the last may have under 15 records
 unfoldable pub blocksFit : Header → List (List ℕ) → List ℕ → ℕ → Bool
@@ -69,7 +69,7 @@ recordAt a k = cond (ltb (k / 15 + 1) (length a / 512)) (take 32 (drop ((k / 15 
 -- ---- the calls
 -- how many records, or 1 for bytes that are no archive
 unfoldable pub countRecords : List ℕ → Counted
-countRecords a = cond (archiveTest a) (Records (records a)) (Refused 1)
+countRecords a = cond (archiveTest a) (Count (records a)) (Refused 1)
 
 -- 0 where there is a record k, 12 where there is none, 1 for bytes that are no archive
 unfoldable pub findRecord : List ℕ → ℕ → ℕ

@@ -6,13 +6,13 @@ ghost use lib.Dec.{eqb, leb};
 ghost use lib.ListN.{length, getD};
 ghost use Rattle.codec.specs.Every.{every};
 ghost use Rattle.header.specs.Header.{parseHeader, tableAt};
-ghost use Rattle.entries.specs.Entries.{blockNumber, recordOf};
+ghost use Rattle.entries.specs.Entries.{storedNumber, recordOf};
 ghost use Rattle.archive.specs.Archive.{blockFits, blocksFit, archiveTest, records as recordsOf, recordAt, countRecords, findRecord, foundRecord};
 ghost use Rattle.archive.specs.Sweep.{countAt, countsTest, Fronts, placeOf, frontTest, phaseTest, recordTest, Looked};
 
-// How many records an archive has, or a refusal's number.
+// How many there are, or a refusal's number.
 pub enum Counted {
-    Records(usize),
+    Count(usize),
     Refused(u8),
 }
 
@@ -179,7 +179,7 @@ fn records_fit(known: &[u32; 256], block: &[u8], count: usize) -> bool
 
 fn number_of(block: &[u8]) -> usize
     requires { ⌜ length (now block) ≡ 512 ⌝ }
-    ensures { λ r. ⌜ r ≡ blockNumber (now (block .entry)) ⌝ }
+    ensures { λ r. ⌜ r ≡ storedNumber (now (block .entry)) ⌝ }
 {
     codec::get32(block, 4) as usize
 }
@@ -275,7 +275,7 @@ pub fn count(a: &[u8]) -> Counted
     if !test(a) {
         return Counted::Refused(1);
     }
-    Counted::Records(records(a))
+    Counted::Count(records(a))
 }
 
 // Whether there is a record k: 1, 12, or 0 when there is.

@@ -4,7 +4,6 @@ ghost use Prim.Native.Nat.{_+_, _*_, _/_, _<_, _≤_};
 ghost use lib.ListN.{length};
 use archive::Counted;
 use clock::Verdict;
-use concurrent::Listed;
 use header::Header;
 use record::Record;
 use verdict::Compared;
@@ -143,11 +142,11 @@ fn tell(a: &[u8], r: usize, places: usize, all: &mut [u64])
     requires { ⌜ places ≤ length (now all) ⌝ }
 {
     match concurrent::unordered(a, r, &mut all[0..places]) {
-        Listed::Count(n) => {
+        Counted::Count(n) => {
             say(b": count ", n);
             show(&all[0..n]);
         }
-        Listed::Refused(k) => {
+        Counted::Refused(k) => {
             say(b": refused ", k as usize);
         }
     }
@@ -281,7 +280,7 @@ fn total(a: &[u8], size: usize) {
         return;
     }
     match archive::count(&a[0..size]) {
-        Counted::Records(n) => {
+        Counted::Count(n) => {
             say(b": records ", n);
         }
         Counted::Refused(k) => {

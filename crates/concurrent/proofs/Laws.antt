@@ -22,8 +22,8 @@ use Rattle.verdict.specs.Compare.{verdictOn, verdictOfBytes}
 use Rattle.verdict.specs.declared.Compared.the-variants.{Ordered, Refused}
 use Rattle.concurrent.specs.Unordered.{eventAt, isUnorderedVerdict, concurrent, isUnordered, countBelow, unorderedCount, unorderedAnswer, Lists}
 use Rattle.concurrent.specs.ByNumber.{orderOf}
-use Rattle.concurrent.specs.declared.Listed.the-variants.{Count}
-use Rattle.concurrent.specs.declared.Listed.the-variants as listed
+use Rattle.archive.specs.declared.Counted.the-variants.{Count}
+use Rattle.archive.specs.declared.Counted.the-variants as listed
 use Rattle.archive.proofs.Tested.{records-most, block-numbers, record-place, record-well-made}
 use Rattle.concurrent.proofs.Below.{passing, passing-length, passing-members, passing-once, count-room, Filled}
 

@@ -12,8 +12,8 @@ use Rattle.clock.specs.declared.Verdict.the-variants.{Before, After, Same, Unor
 use Rattle.record.specs.Record.{parseRecord}
 use Rattle.record.specs.declared.Record.{Record}
 use Rattle.archive.specs.Archive.{archiveTest, records, recordAt}
-use Rattle.concurrent.specs.declared.Listed.{Listed}
-use Rattle.concurrent.specs.declared.Listed.the-variants.{Count, Refused}
+use Rattle.archive.specs.declared.Counted.{Counted}
+use Rattle.archive.specs.declared.Counted.the-variants.{Count, Refused}
 
 -- ---- which records
 -- the event that record k stands for
@@ -46,7 +46,7 @@ unorderedCount a r = countBelow (records a) (isUnordered a r)
 
 -- ---- the call
 -- bytes that are no archive are 1, no record r is 12, a list of too few places 11; else how many there are
-unfoldable pub unorderedAnswer : List ℕ → ℕ → ℕ → Listed
+unfoldable pub unorderedAnswer : List ℕ → ℕ → ℕ → Counted
 unorderedAnswer a r places =
     cond (archiveTest a)
     (cond (ltb r (records a)) (cond (ltb places (unorderedCount a r)) (Refused 11) (Count (unorderedCount a r))) (Refused 12))
@@ -66,11 +66,11 @@ pub record Lists (a : List ℕ) (r : ℕ) (before after : List ℕ) (n : ℕ) : 
   pub rest : after ≡ listed ++ drop n before
 
 -- the list after an answer: as it was after a refusal
-abbrev pub ListAfter : List ℕ → ℕ → List ℕ → List ℕ → Listed → Type 0
+abbrev pub ListAfter : List ℕ → ℕ → List ℕ → List ℕ → Counted → Type 0
 ListAfter a r before after (Count n) = Lists a r before after n
 ListAfter a r before after (Refused k) = after ≡ before
 
 -- the whole promise
-pub record UnorderedList (a : List ℕ) (r : ℕ) (before after : List ℕ) (answer : Listed) : Type 0 where
+pub record UnorderedList (a : List ℕ) (r : ℕ) (before after : List ℕ) (answer : Counted) : Type 0 where
   pub answers : answer ≡ unorderedAnswer a r (length before)
   pub leaves : ListAfter a r before after answer

@@ -15,7 +15,7 @@ use Rattle.codec.specs.Written.{refused, wrote}
 use Rattle.codec.proofs.EveryLaws.{both, join}
 use Rattle.codec.proofs.SpliceLaws.{part-part}
 use Rattle.record.specs.Record.{wellMadeRecord}
-use Rattle.entries.specs.Entries.{countOf, blockNumber, recordOf, bodyFits, wellMadeEntries, imageEntries, recordsFit, entriesFit, writeEntries, readEntries, readRecord}
+use Rattle.entries.specs.Entries.{countOf, storedNumber, recordOf, bodyFits, wellMadeEntries, imageEntries, recordsFit, entriesFit, writeEntries, readEntries, readRecord}
 use Rattle.entries.specs.declared.EntriesRead.the-variants.{Block, Refused}
 use Rattle.entries.proofs.Laws.{start-is, front-parts, well-made-parts, well-made-length, well-made-count, recordBytes, records-part, image-length, accepted-is-image, reads-back}
 
@@ -35,7 +35,7 @@ record-bytes-at l k h c =
     part-part l 32 (k * 32) (countOf l * 32) 16 (omega arith) ∙ ap (λ (x : ℕ). take 32 (drop x l)) (sym (start-is k (omega arith)))
 
 -- what an accepted block holds is what the writer takes
-pub accepted-fits : (l : List ℕ) → wellMadeEntries l ≡ true → entriesFit (blockNumber l) (recordBytes l) ≡ true
+pub accepted-fits : (l : List ℕ) → wellMadeEntries l ≡ true → entriesFit (storedNumber l) (recordBytes l) ≡ true
 unfolding entriesFit recordBytes bodyFits
 accepted-fits l h =
     let w = well-made-parts l h in
@@ -44,10 +44,10 @@ accepted-fits l h =
     let z : length (recordBytes l) % 32 ≡ 0 = omega arith in
     let q : length (recordBytes l) / 32 ≡ countOf l = omega arith in
     let r : recordsFit (recordBytes l) (countOf l) ≡ true = records-part l (countOf l) (c .1) ∙ both (every (countOf l) (λ (k : ℕ). wellMadeRecord (recordOf l k))) _ (w .2) .0 in
-    join _ _ (le-leb 1 (blockNumber l) (front-parts l (w .1) .5)) (join _ _ (eq-eqb _ 0 z) (rw q r))
+    join _ _ (le-leb 1 (storedNumber l) (front-parts l (w .1) .5)) (join _ _ (eq-eqb _ 0 z) (rw q r))
 
 -- each accepted block is the one that the writer makes from what it holds
-pub accepted-is-written : (l d : List ℕ) → AreBytes l → wellMadeEntries l ≡ true → 512 ≤ length d → writeEntries (blockNumber l) (recordBytes l) d ≡ wrote (splice d 0 l)
+pub accepted-is-written : (l d : List ℕ) → AreBytes l → wellMadeEntries l ≡ true → 512 ≤ length d → writeEntries (storedNumber l) (recordBytes l) d ≡ wrote (splice d 0 l)
 unfolding writeEntries
 accepted-is-written l d b h s =
     let c = well-made-count l h in
@@ -61,8 +61,8 @@ pub read-is-written : (l d : List ℕ) (number count : ℕ) → AreBytes l → r
 unfolding readEntries
 read-is-written l d number count b r s = go (wellMadeEntries l) refl r
   where
-    go : (t : Bool) → wellMadeEntries l ≡ t → cond t (Block (blockNumber l) (countOf l)) (Refused 1) ≡ Block number count → writeEntries number (recordBytes l) d ≡ wrote (splice d 0 l)
-    go true e q = let n : blockNumber l ≡ number = cc in rw (← n) (accepted-is-written l d b e s)
+    go : (t : Bool) → wellMadeEntries l ≡ t → cond t (Block (storedNumber l) (countOf l)) (Refused 1) ≡ Block number count → writeEntries number (recordBytes l) d ≡ wrote (splice d 0 l)
+    go true e q = let n : storedNumber l ≡ number = cc in rw (← n) (accepted-is-written l d b e s)
     go false e q = let z : _≡_ {A = ℕ} 0 1 = cc in absurd (omega arith)
 
 -- ---- from the writer

@@ -21,7 +21,7 @@ use Rattle.codec.proofs.CheckLaws.{seal-length, seal-seals, sealed-is}
 use Rattle.codec.proofs.OneByte.{one-byte}
 use Rattle.record.specs.Record.{wellMadeRecord}
 use Rattle.entries.specs.Starts.{recordStarts, recordStart, recordsEnd}
-use Rattle.entries.specs.Entries.{countOf, blockNumber, recordOf, frontFits, bodyFits, wellMadeEntries, entriesBody, imageEntries, recordsFit, entriesFit}
+use Rattle.entries.specs.Entries.{countOf, storedNumber, recordOf, frontFits, bodyFits, wellMadeEntries, entriesBody, imageEntries, recordsFit, entriesFit}
 
 pub body-length : (number : ℕ) (rs : List ℕ) → length rs ≤ 480 → length (entriesBody number rs) ≡ 510
 unfolding entriesBody
@@ -72,7 +72,7 @@ records-part l count h =
 
 -- ---- the tests, part by part
 pub front-parts : (l : List ℕ) → frontFits l ≡ true
-    → (sealed l ≡ true) × (getD l 0 0 ≡ 2) × (1 ≤ countOf l) × (countOf l ≤ 15) × (numAt 2 l 2 ≡ 0) × (1 ≤ blockNumber l) × (allZero (take 8 (drop 8 l)) ≡ true)
+    → (sealed l ≡ true) × (getD l 0 0 ≡ 2) × (1 ≤ countOf l) × (countOf l ≤ 15) × (numAt 2 l 2 ≡ 0) × (1 ≤ storedNumber l) × (allZero (take 8 (drop 8 l)) ≡ true)
 unfolding frontFits
 front-parts l h =
     let a = both (sealed l) _ h in
@@ -80,7 +80,7 @@ front-parts l h =
     let d = both (leb 1 (countOf l)) _ (b .1) in
     let e = both (leb (countOf l) 15) _ (d .1) in
     let f = both (eqb (numAt 2 l 2) 0) _ (e .1) in
-    let g = both (leb 1 (blockNumber l)) _ (f .1) in
+    let g = both (leb 1 (storedNumber l)) _ (f .1) in
     (a .0, eqb-true _ _ (b .0), leb-true _ _ (d .0), leb-true _ _ (e .0), eqb-true _ _ (f .0), leb-true _ _ (g .0), g .1)
 
 pub well-made-parts : (l : List ℕ) → wellMadeEntries l ≡ true → (length l ≡ 512) × (frontFits l ≡ true) × (bodyFits l (countOf l) ≡ true)
@@ -106,7 +106,7 @@ unfolding bodyFits
 zeros-behind l h = both (every (countOf l) (λ (k : ℕ). wellMadeRecord (recordOf l k))) _ h .1
 
 -- each accepted block is the one that the writer makes from what the reader gives of it
-pub accepted-is-image : (l : List ℕ) → AreBytes l → wellMadeEntries l ≡ true → imageEntries (blockNumber l) (recordBytes l) ≡ l
+pub accepted-is-image : (l : List ℕ) → AreBytes l → wellMadeEntries l ≡ true → imageEntries (storedNumber l) (recordBytes l) ≡ l
 unfolding imageEntries entriesBody bodyFits recordBytes
 accepted-is-image l b h =
     let w = well-made-parts l h in
@@ -142,7 +142,7 @@ one-byte-refused l p y b h g d w =
 -- what is written can be read: the number, the count, and each record
 pub record Reads (number : ℕ) (rs : List ℕ) : Type 0 where
   pub accepted : wellMadeEntries (imageEntries number rs) ≡ true
-  pub number-back : blockNumber (imageEntries number rs) ≡ number
+  pub number-back : storedNumber (imageEntries number rs) ≡ number
   pub count-back : countOf (imageEntries number rs) ≡ length rs / 32
   pub record-back : (k : ℕ) → k < length rs / 32 → recordOf (imageEntries number rs) k ≡ take 32 (drop (k * 32) rs)
 
@@ -187,7 +187,7 @@ module _ (number : ℕ) (rs : List ℕ) (few : length rs ≤ 480) (some : 1 ≤ 
       let b = both (eqb (length rs % 32) 0) _ (a .1) in
       (leb-true _ _ (a .0), eqb-true _ _ (b .0), b .1)
 
-  number-is : blockNumber x ≡ number
+  number-is : storedNumber x ≡ number
   number-is = has-num 4 number (places .number-at) small
 
   record-is : (k : ℕ) → k < length rs / 32 → recordOf x k ≡ take 32 (drop (k * 32) rs)

@@ -18,8 +18,8 @@ use Rattle.entries.specs.declared.EntriesRead.the-variants.{Block, Refus
 abbrev pub countOf : List ℕ → ℕ
 countOf l = getD l 1 0
 
-abbrev pub blockNumber : List ℕ → ℕ
-blockNumber l = numAt 4 l 4
+abbrev pub storedNumber : List ℕ → ℕ
+storedNumber l = numAt 4 l 4
 
 -- the 32 bytes of record k
 unfoldable pub recordOf : List ℕ → ℕ → List ℕ
@@ -29,7 +29,7 @@ recordOf l k = take 32 (drop (recordStart k) l)
 unfoldable pub frontFits : List ℕ → Bool
 frontFits l =
     sealed l && (eqb (getD l 0 0) 2 && (leb 1 (countOf l) && (leb (countOf l) 15
-    && (eqb (numAt 2 l 2) 0 && (leb 1 (blockNumber l) && allZero (take 8 (drop 8 l)))))))
+    && (eqb (numAt 2 l 2) 0 && (leb 1 (storedNumber l) && allZero (take 8 (drop 8 l)))))))
 
 -- the places past the last record are zero up to the check
 abbrev pub tailFits : List ℕ → ℕ → Bool
@@ -69,7 +69,7 @@ writeEntries number rs d =
     (refused 1 d))
 
 unfoldable pub readEntries : List ℕ → EntriesRead
-readEntries l = cond (wellMadeEntries l) (Block (blockNumber l) (countOf l)) (Refused 1)
+readEntries l = cond (wellMadeEntries l) (Block (storedNumber l) (countOf l)) (Refused 1)
 
 -- no entries block is 1, no such record 12, a buffer of under 32 bytes 11
 unfoldable pub readRecord : List ℕ → ℕ → List ℕ → Written

@@ -10,15 +10,14 @@ use borrow.Author.Tests.{eqb-false, eq-eqb, ltb-true}
 use Rattle.entries.specs.Entries.{countOf}
 use Rattle.entries.proofs.Laws.{well-made-count}
 use Rattle.archive.specs.Archive.{blockOf, blocks, archiveTest, records, recordAt, countRecords, findRecord, foundRecord}
-use Rattle.archive.specs.declared.Counted.the-variants.{Records, Refused as NoArchive}
 use Rattle.archive.proofs.Laws.{test-blocks, block-parts}
 use Rattle.archive.proofs.Tested.{record-length}
 use Rattle.concurrent.specs.Unordered.{isUnordered, unorderedCount, unorderedAnswer, UnorderedList}
-use Rattle.concurrent.specs.declared.Listed.{Listed}
-use Rattle.concurrent.specs.declared.Listed.the-variants.{Count, Refused as NoList}
+use Rattle.archive.specs.declared.Counted.{Counted}
+use Rattle.archive.specs.declared.Counted.the-variants.{Count, Refused as NotCounted}
 use Rattle.concurrent.proofs.Below.{count-most}
-use Rattle.melontime.specs.Numbers.{greatest, countedNumber, listedNumber}
-use Rattle.melontime.specs.Archives.{Lists}
+use Rattle.melontime.specs.Numbers.{greatest, countedNumber}
+use Rattle.melontime.specs.Archives.{HostList}
 
 -- at most 15 records to a block
 pub records-most : (a : List ℕ) → archiveTest a ≡ true → records a * 512 ≤ length a * 15
@@ -37,15 +36,15 @@ pub counted-small : (a : List ℕ) → length a ≤ greatest → countedNumber (
 unfolding countRecords
 counted-small a h = go (archiveTest a) refl
   where
-    go : (t : Bool) → archiveTest a ≡ t → countedNumber (cond t (Records (records a)) (NoArchive 1)) ≤ greatest
+    go : (t : Bool) → archiveTest a ≡ t → countedNumber (cond t (Count (records a)) (NotCounted 1)) ≤ greatest
     go true e = omega (arith, records-most a e)
     go false e = omega arith
 
-pub listed-small : (a : List ℕ) (k places : ℕ) → length a ≤ greatest → listedNumber (unorderedAnswer a k places) ≤ greatest
+pub listed-small : (a : List ℕ) (k places : ℕ) → length a ≤ greatest → countedNumber (unorderedAnswer a k places) ≤ greatest
 unfolding unorderedAnswer unorderedCount
 listed-small a k places h = go (archiveTest a) (ltb k (records a)) (ltb places (unorderedCount a k)) refl
   where
-    go : (t u v : Bool) → archiveTest a ≡ t → listedNumber (cond t (cond u (cond v (NoList 11) (Count (unorderedCount a k))) (NoList 12)) (NoList 1)) ≤ greatest
+    go : (t u v : Bool) → archiveTest a ≡ t → countedNumber (cond t (cond u (cond v (NotCounted 11) (Count (unorderedCount a k))) (NotCounted 12)) (NotCounted 1)) ≤ greatest
     go true true false e = omega (arith, records-most a e, count-most (isUnordered a k) (records a))
     go true true true e = omega arith
     go true false v e = omega arith
@@ -69,5 +68,5 @@ unfolding foundRecord
 found-is a k e = rw (eq-eqb _ 0 e)
 
 -- ---- an unordered list
-pub listing : {a : List ℕ} {k : ℕ} {before after : List ℕ} {q : Listed} {r : ℕ} → UnorderedList a k before after q → r ≡ listedNumber q → Lists a k before after r
-listing u e = record { number = e ∙ ap (λ (x : Listed). listedNumber x) (u .answers); leaves = rw (u .answers) at (u .leaves) }
+pub listing : {a : List ℕ} {k : ℕ} {before after : List ℕ} {q : Counted} {r : ℕ} → UnorderedList a k before after q → r ≡ countedNumber q → HostList a k before after r
+listing u e = record { number = e ∙ ap (λ (x : Counted). countedNumber x) (u .answers); leaves = rw (u .answers) at (u .leaves) }

@@ -14,14 +14,12 @@ use Rattle.verdict.specs.declared.Compared.{Compared}
 use Rattle.verdict.specs.declared.Compared.the-variants.{Ordered, Refused}
 use Rattle.entries.specs.declared.EntriesRead.{EntriesRead}
 use Rattle.entries.specs.declared.EntriesRead.the-variants.{Block, Refused as NoBlock}
-use Rattle.entries.specs.Entries.{countOf, blockNumber, wellMadeEntries, readEntries}
+use Rattle.entries.specs.Entries.{countOf, storedNumber, wellMadeEntries, readEntries}
 use Rattle.entries.proofs.Laws.{well-made-count}
 use Rattle.archive.specs.Archive.{archiveTest, records, countRecords}
 use Rattle.archive.specs.declared.Counted.{Counted}
-use Rattle.archive.specs.declared.Counted.the-variants.{Records, Refused as NoArchive}
+use Rattle.archive.specs.declared.Counted.the-variants.{Count, Refused as NotCounted}
 use Rattle.concurrent.specs.Unordered.{unorderedCount, unorderedAnswer}
-use Rattle.concurrent.specs.declared.Listed.{Listed}
-use Rattle.concurrent.specs.declared.Listed.the-variants.{Count, Refused as NoList}
 use Rattle.reset.specs.Network.{quiescent}
 use Rattle.reset.specs.Config.{Config}
 use Rattle.reset.specs.Clock.{vector}
@@ -33,7 +31,7 @@ use Rattle.station.specs.Image.{modeByte, modeOf}
 use Rattle.steps.specs.Answers.{modeCode, steppedOf}
 use Rattle.steps.specs.declared.answer.Answer.{Answer as CodeAnswer}
 use Rattle.steps.specs.declared.answer.Answer.the-variants.{Refused as NotDone, Entered, InMode}
-use Rattle.melontime.specs.Numbers.{entryMade, tells, modes, counts, stepNumber, restNumber, orderNumber, verdictNumber, blockNumber, countedNumber, listedNumber}
+use Rattle.melontime.specs.Numbers.{entryMade, tells, modes, counts, stepNumber, restNumber, orderNumber, verdictNumber, blockNumber, countedNumber}
 use Rattle.melontime.proofs.Tests.{by-test}
 
 -- the answer x is read back from its number; so one number is one answer
@@ -161,9 +159,9 @@ block-back : (a : List ℕ) → Back blockNumber blockAt (readEntries a)
 unfolding readEntries
 block-back a = go (wellMadeEntries a) refl
   where
-    go : (t : Bool) → wellMadeEntries a ≡ t → Back blockNumber blockAt (cond t (Block (blockNumber a) (countOf a)) (NoBlock 1))
+    go : (t : Bool) → wellMadeEntries a ≡ t → Back blockNumber blockAt (cond t (Block (storedNumber a) (countOf a)) (NoBlock 1))
     go true h =
-        let n : ℕ = blockNumber a in
+        let n : ℕ = storedNumber a in
         let k : ℕ = countOf a in
         let z : k ≤ 15 = well-made-count a h .1 in
         let f : (counts * n + k) / counts ≡ n = omega arith in
@@ -176,7 +174,7 @@ blocks-distinct a b = one blockNumber blockAt _ _ (block-back a) (block-back b)
 
 -- ---- counts, which start at 1,000
 abbrev countedAt : ℕ → Counted
-countedAt k = cond (ltb k tells) (NoArchive k) (Records (k - tells))
+countedAt k = cond (ltb k tells) (NotCounted k) (Count (k - tells))
 
 counted-back : (a : List ℕ) → Back countedNumber countedAt (countRecords a)
 unfolding countRecords
@@ -186,15 +184,12 @@ pub counts-distinct : (a b : List ℕ) → countedNumber (countRecords a) ≡ co
 counts-distinct a b = one countedNumber countedAt _ _ (counted-back a) (counted-back b)
 
 -- ---- unordered lists, whose counts start at 1,000 too
-abbrev listedAt : ℕ → Listed
-listedAt k = cond (ltb k tells) (NoList k) (Count (k - tells))
-
-listed-back : (a : List ℕ) (k places : ℕ) → Back listedNumber listedAt (unorderedAnswer a k places)
+listed-back : (a : List ℕ) (k places : ℕ) → Back countedNumber countedAt (unorderedAnswer a k places)
 unfolding unorderedAnswer
 listed-back a k places =
-    by-test (Back listedNumber listedAt) (archiveTest a)
-    (by-test (Back listedNumber listedAt) (ltb k (records a))
-    (by-test (Back listedNumber listedAt) (ltb places (unorderedCount a k)) refl (rw (told-low (unorderedCount a k), told-rest (unorderedCount a k)))) refl) refl
+    by-test (Back countedNumber countedAt) (archiveTest a)
+    (by-test (Back countedNumber countedAt) (ltb k (records a))
+    (by-test (Back countedNumber countedAt) (ltb places (unorderedCount a k)) refl (rw (told-low (unorderedCount a k), told-rest (unorderedCount a k)))) refl) refl
 
-pub lists-distinct : (a b : List ℕ) (j k p q : ℕ) → listedNumber (unorderedAnswer a j p) ≡ listedNumber (unorderedAnswer b k q) → unorderedAnswer a j p ≡ unorderedAnswer b k q
-lists-distinct a b j k p q = one listedNumber listedAt _ _ (listed-back a j p) (listed-back b k q)
+pub lists-distinct : (a b : List ℕ) (j k p q : ℕ) → countedNumber (unorderedAnswer a j p) ≡ countedNumber (unorderedAnswer b k q) → unorderedAnswer a j p ≡ unorderedAnswer b k q
+lists-distinct a b j k p q = one countedNumber countedAt _ _ (listed-back a j p) (listed-back b k q)

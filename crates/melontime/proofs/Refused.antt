@@ -13,8 +13,8 @@ use Rattle.header.specs.declared.Header.{Header}
 use Rattle.entries.specs.Entries.{wellMadeEntries, countOf, entriesFit, writeEntries, readRecord}
 use Rattle.archive.specs.Archive.{findRecord}
 use Rattle.concurrent.specs.Unordered.{unorderedAnswer, ListAfter}
-use Rattle.concurrent.specs.declared.Listed.{Listed}
-use Rattle.concurrent.specs.declared.Listed.the-variants.{Count, Refused}
+use Rattle.archive.specs.declared.Counted.{Counted}
+use Rattle.archive.specs.declared.Counted.the-variants.{Count, Refused}
 use Rattle.reset.specs.Config.{networkRules}
 use Rattle.reset.specs.Steps.{Step, Answer, refused, entry, modeAfter, step}
 use Rattle.reset.proofs.StepLaws.{refused-leaves}
@@ -22,30 +22,12 @@ use Rattle.rules.specs.Setup.{blockConfig}
 use Rattle.area.specs.Layout.{image, configAt, stateAt, test}
 use Rattle.area.proofs.Formed.{formed}
 use Rattle.area_calls.specs.Calls.{AreaStep, imaged, setupOn, stepOn}
-use Rattle.melontime.specs.Numbers.{tells, recordLength, fieldsLength, areaLength, entryMade, stepNumber, listedNumber}
+use Rattle.melontime.specs.Numbers.{tells, recordLength, fieldsLength, areaLength, entryMade, stepNumber, countedNumber}
 use Rattle.melontime.specs.Calls.{HostStep, recordAfter, hostStep}
 use Rattle.melontime.specs.Headers.{fieldsFit, headerGiven, headerWritten, headerFields}
-use Rattle.melontime.specs.Archives.{recordFound, Lists}
+use Rattle.melontime.specs.Archives.{recordFound, HostList}
+use Rattle.melontime.specs.Refused.{LeavesRefused, RefusedLeaves}
 use Rattle.melontime.proofs.Tests.{by-test}
-
--- a call that writes is answered with 0, or has left the buffer as it was
-abbrev pub LeavesRefused : List ℕ → Written → Type 0
-LeavesRefused d w = (w .answer ≡ 0 → ⊥) → w .buffer ≡ d
-
-pub record RefusedLeaves : Type 0 where
-  -- a step on an area; a host's step, whose refusals are the numbers below 100, with its record area too
-  pub step-area : (p : Step) (a : List ℕ) → AreBytes a → (k : ℕ) → stepOn p a .answer ≡ refused k → stepOn p a .area ≡ a
-  pub step-both : (p : Step) (a d : List ℕ) → AreBytes a → hostStep p a d .number < entryMade → (hostStep p a d .area ≡ a) × (hostStep p a d .event ≡ d)
-  -- setup, and the calls that write into a lent buffer
-  pub setup : (block a : List ℕ) → LeavesRefused a (setupOn block a)
-  pub header-write : (h : Header) (m : List (List ℕ)) (d : List ℕ) → LeavesRefused d (writeHeader h m d)
-  pub entries-write : (number : ℕ) (rs d : List ℕ) → LeavesRefused d (writeEntries number rs d)
-  pub record-read : (block : List ℕ) (k : ℕ) (d : List ℕ) → LeavesRefused d (readRecord block k d)
-  pub host-header-write : (n t : ℕ) (x m d : List ℕ) → LeavesRefused d (headerWritten n t x m d)
-  pub host-header-read : (block d : List ℕ) → LeavesRefused d (headerFields block d)
-  pub host-record-found : (a : List ℕ) (k : ℕ) (d : List ℕ) → LeavesRefused d (recordFound a k d)
-  -- a list, whose refusals are the numbers below 1,000
-  pub unordered-list : (a : List ℕ) (k : ℕ) (before after : List ℕ) (r : ℕ) → Lists a k before after r → r < tells → after ≡ before
 
 -- ---- over the tests that refuse
 -- a refusal leaves the buffer; what was written was not refused
@@ -80,10 +62,10 @@ both-leave p a d b = by-test (λ (o : HostStep). o .number < entryMade → (o .a
     by (entry x) e l = absurd (omega arith)
     by (modeAfter i m q) e l = absurd (omega arith)
 
-list-leaves : (a : List ℕ) (k : ℕ) (before after : List ℕ) (r : ℕ) → Lists a k before after r → r < tells → after ≡ before
+list-leaves : (a : List ℕ) (k : ℕ) (before after : List ℕ) (r : ℕ) → HostList a k before after r → r < tells → after ≡ before
 list-leaves a k before after r q l = go (unorderedAnswer a k (length before)) (q .number) (q .leaves)
   where
-    go : (x : Listed) → r ≡ listedNumber x → ListAfter a k before after x → after ≡ before
+    go : (x : Counted) → r ≡ countedNumber x → ListAfter a k before after x → after ≡ before
     go (Count n) e h = absurd (omega arith)
     go (Refused n) e h = h
 

@@ -9,7 +9,7 @@ use Rattle.codec.specs.Splice.{splice}
 use Rattle.codec.specs.Written.{Written, refused, wrote}
 use Rattle.archive.specs.Archive.{findRecord, foundRecord}
 use Rattle.concurrent.specs.Unordered.{unorderedAnswer, ListAfter}
-use Rattle.melontime.specs.Numbers.{recordLength, areaLength, listedNumber}
+use Rattle.melontime.specs.Numbers.{recordLength, areaLength, countedNumber}
 
 -- a record that is not found is refused as the archive refuses it, an area of under 32 bytes is 11; the rest of an area is left
 unfoldable pub recordFound : List ℕ → ℕ → List ℕ → Written
@@ -19,6 +19,6 @@ recordFound a k d =
     (refused (findRecord a k) d)
 
 -- the call of record k's unordered list returned r, and left the list as `after`
-pub record Lists (a : List ℕ) (k : ℕ) (before after : List ℕ) (r : ℕ) : Type 0 where
-  pub number : r ≡ listedNumber (unorderedAnswer a k (length before))
+pub record HostList (a : List ℕ) (k : ℕ) (before after : List ℕ) (r : ℕ) : Type 0 where
+  pub number : r ≡ countedNumber (unorderedAnswer a k (length before))
   pub leaves : ListAfter a k before after (unorderedAnswer a k (length before))

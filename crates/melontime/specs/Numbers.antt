@@ -7,9 +7,7 @@ use Rattle.verdict.specs.declared.Compared.the-variants.{Ordered, Refused}
 use Rattle.entries.specs.declared.EntriesRead.{EntriesRead}
 use Rattle.entries.specs.declared.EntriesRead.the-variants.{Block, Refused as NoBlock}
 use Rattle.archive.specs.declared.Counted.{Counted}
-use Rattle.archive.specs.declared.Counted.the-variants.{Records, Refused as NoArchive}
-use Rattle.concurrent.specs.declared.Listed.{Listed}
-use Rattle.concurrent.specs.declared.Listed.the-variants.{Count, Refused as NoList}
+use Rattle.archive.specs.declared.Counted.the-variants.{Count, Refused as NotCounted}
 use Rattle.reset.specs.Steps.{Answer, refused, entry, modeAfter}
 use Rattle.area_calls.specs.Calls.{RestAnswer, yes, no, restRefused}
 use Rattle.station.specs.Image.{modeByte}
@@ -80,12 +78,8 @@ blockNumber (NoBlock k) = k
 
 -- how many records an archive has, and how many an unordered list: 1,000 + the count
 abbrev pub countedNumber : Counted → ℕ
-countedNumber (Records n) = tells + n
-countedNumber (NoArchive k) = k
-
-abbrev pub listedNumber : Listed → ℕ
-listedNumber (Count n) = tells + n
-listedNumber (NoList k) = k
+countedNumber (Count n) = tells + n
+countedNumber (NotCounted k) = k
 
 -- the same numbers, by the answer as the code has it
 abbrev pub codeNumber : CodeAnswer → ℕ

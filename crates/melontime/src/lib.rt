@@ -10,13 +10,12 @@ ghost use Rattle.verdict.specs.Compare.{verdictOn};
 ghost use Rattle.entries.specs.Entries.{writeEntries, readEntries, readRecord};
 ghost use Rattle.area_calls.specs.Calls.{setupOn, restOn};
 ghost use Rattle.quiescence.specs.View.{restView};
-ghost use Rattle.melontime.specs.Numbers.{recordLength, fieldsLength, greatest, blockNumber, restNumber, orderNumber, verdictNumber, countedNumber, listedNumber, codeNumber, isEntry};
+ghost use Rattle.melontime.specs.Numbers.{recordLength, fieldsLength, greatest, blockNumber, restNumber, orderNumber, verdictNumber, countedNumber, codeNumber, isEntry};
 ghost use Rattle.melontime.specs.Calls.{Returns, eventAfter};
 ghost use Rattle.melontime.specs.Headers.{fieldsFit, headerGiven, headerWritten, fieldBytes, headerFields};
-ghost use Rattle.melontime.specs.Archives.{recordFound, Lists};
+ghost use Rattle.melontime.specs.Archives.{recordFound, HostList};
 use archive::Counted;
 use clock::Verdict;
-use concurrent::Listed;
 use entries::EntriesRead;
 use header::Header;
 use quiescence::RestAnswer;
@@ -306,7 +305,7 @@ fn counted_number(answer: Counted) -> u64
     ensures { λ r. ⌜ r ≡ countedNumber answer ⌝ }
 {
     match answer {
-        Counted::Records(n) => TOLD + (n as u64),
+        Counted::Count(n) => TOLD + (n as u64),
         Counted::Refused(k) => k as u64,
     }
 }
@@ -334,19 +333,9 @@ pub extern "C" fn melontime_found_record(archive: &[u8], number: u64, area: &mut
     DONE
 }
 
-fn listed_number(answer: Listed) -> u64
-    requires { ⌜ listedNumber answer ≤ greatest ⌝ }
-    ensures { λ r. ⌜ r ≡ listedNumber answer ⌝ }
-{
-    match answer {
-        Listed::Count(n) => TOLD + (n as u64),
-        Listed::Refused(k) => k as u64,
-    }
-}
-
 #[no_mangle]
 pub extern "C" fn melontime_unordered(archive: &[u8], number: u64, list: &mut [u64]) -> u64
-    ensures { λ r. ⌜ Lists (now (archive .entry)) number (now (list .entry)) (now (list .exit)) r ⌝ }
+    ensures { λ r. ⌜ HostList (now (archive .entry)) number (now (list .entry)) (now (list .exit)) r ⌝ }
 {
-    listed_number(concurrent::unordered(archive, number as usize, list))
+    counted_number(concurrent::unordered(archive, number as usize, list))
 }

@@ -18,7 +18,7 @@ use Rattle.record.specs.Record.{parseRecord, wellMadeRecord}
 use Rattle.record.proofs.Laws as record-laws
 use Rattle.header.specs.Header.{imageHeader, parseHeader, tableAt, wellMadeHeader, writeHeader}
 use Rattle.header.proofs.Laws as header-laws
-use Rattle.entries.specs.Entries.{countOf, blockNumber, recordOf as placeOf, recordsFit, entriesFit, wellMadeEntries, writeEntries}
+use Rattle.entries.specs.Entries.{countOf, storedNumber, recordOf as placeOf, recordsFit, entriesFit, wellMadeEntries, writeEntries}
 use Rattle.entries.proofs.Laws as entries-laws
 use Rattle.archive.specs.Archive.{recordKnown, blockOf, blocks, allKnown, blockFits, blocksFit, archiveTest, records, recordAt}
 use Rattle.archive.proofs.Tested.{record-place}
@@ -121,7 +121,7 @@ module _ (c : Config) (E : List Accepted) (w : wellMade c ≡ true) (few : lengt
     unfolding blockFits madeBlock
     made-fits =
         join (wellMadeEntries (madeBlock E b)) _ (reads .accepted)
-        (join (eqb (blockNumber (madeBlock E b)) (b + 1)) _ (eq-eqb _ _ (reads .number-back))
+        (join (eqb (storedNumber (madeBlock E b)) (b + 1)) _ (eq-eqb _ _ (reads .number-back))
         (join (eqb (b + 1) (blocksFor (length E)) || eqb (countOf (madeBlock E b)) 15) _
         (by-test (eqb (b + 1) (blocksFor (length E))) (λ e. rw e)
         (λ e. let n : b + 1 ≡ blocksFor (length E) → ⊥ = eqb-false _ _ e in rw e (eq-eqb (countOf (madeBlock E b)) 15 (omega (arith, made-count))))) made-known))

@@ -13,7 +13,7 @@ use lib.Seq.{take-all, take-suc-set, take-append-le}
 use borrow.Author.Tests.{ltb-true}
 use Rattle.decimal.specs.Decimal.{decimal, spaced}
 use Rattle.decimal.proofs.DecimalLaws.{decimal-length}
-use Rattle.turnover_input.specs.Text.{defaultLimit, textOf, wellMade, Means}
+use Rattle.turnover_input.specs.Text.{defaultLimit, textOf, commandFits, Means}
 use Rattle.turnover_input.specs.Parse.{parseOf}
 use Rattle.turnover_input.proofs.MadeLaws.{below2, below3}
 use Rattle.turnover_input.proofs.TextLaws.{means-parse}
@@ -29,7 +29,7 @@ limit-short : (short : Bool) (l : ℕ) → l < 256 → length (spaced (cond shor
 limit-short true l h = omega arith
 limit-short false l h = let p = decimal-length 2 l (omega arith) in simp length-append (omega arith)
 
-text-short : (brief : Bool) (c : Command) → wellMade c ≡ true → length (textOf brief c) < 20
+text-short : (brief : Bool) (c : Command) → commandFits c ≡ true → length (textOf brief c) < 20
 text-short b (Net n t) e =
     let h = below2 n 256 t 65536 e in
     simp length-append (omega (arith, decimal-length 2 n (omega arith), decimal-length 4 t (omega arith)))

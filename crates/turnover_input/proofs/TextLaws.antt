@@ -15,7 +15,7 @@ use Rattle.turnover_input.specs.Fields.{numbersOf}
 use Rattle.turnover_input.proofs.NumberLaws.{Spells, numbers-one, numbers-two, numbers-three, numbers-sound}
 use Rattle.turnover_input.specs.declared.fields.Numbers.{Numbers}
 use Rattle.turnover_input.specs.declared.fields.Numbers.the-variants.{One, Two, Three, Malformed}
-use Rattle.turnover_input.specs.Text.{defaultLimit, textOf, wellMade, IsText, Means}
+use Rattle.turnover_input.specs.Text.{defaultLimit, textOf, commandFits, IsText, Means}
 use Rattle.turnover_input.specs.Parse.{made, ofOne, ofTwo, ofThree, linkOf, startsWith, parseOf}
 use Rattle.turnover_input.specs.declared.command.Command.{Command}
 use Rattle.turnover_input.specs.declared.command.Command.the-variants.{Net, Allow, Link, Enter, Send, Recv, Start, Bad}
@@ -23,13 +23,13 @@ use Rattle.turnover_input.proofs.MadeLaws.{below2, below3}
 use Rattle.turnover_input.proofs.StartLaws.{start-split}
 
 -- ---- a text is read as its command
-parse-link : (i j l : ℕ) (short : Bool) → (short ≡ true → l ≡ defaultLimit) → wellMade (Link i j l) ≡ true
+parse-link : (i j l : ℕ) (short : Bool) → (short ≡ true → l ≡ defaultLimit) → commandFits (Link i j l) ≡ true
     → parseOf (ascii "link " ++ parted (i ∷ j ∷ cond short [] (l ∷ []))) ≡ Link i j l
 unfolding parseOf startsWith
 parse-link i j l true f e = let h = below3 i 8 j 8 l 256 e in rw (numbers-two i j (omega arith) (omega arith), ← f refl, e)
 parse-link i j l false f e = let h = below3 i 8 j 8 l 256 e in rw (numbers-three i j l (omega arith) (omega arith) (omega arith), e)
 
-pub parse-text : (brief : Bool) (c : Command) → wellMade c ≡ true → parseOf (textOf brief c) ≡ c
+pub parse-text : (brief : Bool) (c : Command) → commandFits c ≡ true → parseOf (textOf brief c) ≡ c
 unfolding parseOf startsWith
 parse-text b (Net n t) e = let h = below2 n 256 t 65536 e in rw (numbers-two n t (omega arith) (omega arith), e)
 parse-text b (Allow i a) e = let h = below2 i 8 a 65536 e in rw (numbers-two i a (omega arith) (omega arith), e)
@@ -45,9 +45,9 @@ abbrev Sound : List ℕ → Command → Type 0
 Sound l c = (c ≡ Bad) ⊎ IsText l c
 
 made-sound : (l : List ℕ) (c : Command) (brief : Bool) → textOf brief c ≡ l → Sound l (made c)
-made-sound l c b t = go (wellMade c) refl
+made-sound l c b t = go (commandFits c) refl
   where
-    go : (w : Bool) → wellMade c ≡ w → Sound l (cond w c Bad)
+    go : (w : Bool) → commandFits c ≡ w → Sound l (cond w c Bad)
     go true e = inr (e, (b, t))
     go false e = inl refl
 
@@ -113,7 +113,7 @@ parse-means l = go (parse-sound l)
     go (inr t) = inl t
     go (inl e) = inr (e, λ d t. bad-none d (t .0) (sym e ∙ parse-is l d t))
       where
-        bad-none : (d : Command) → wellMade d ≡ true → Bad ≡ d → ⊥
+        bad-none : (d : Command) → commandFits d ≡ true → Bad ≡ d → ⊥
         bad-none d w q = false≢true (rw (sym q) at w)
 
 -- a line says one thing

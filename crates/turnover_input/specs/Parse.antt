@@ -10,11 +10,11 @@ use Rattle.turnover_input.specs.declared.fields.Numbers.{Numbers}
 use Rattle.turnover_input.specs.declared.fields.Numbers.the-variants.{One, Two, Three, Malformed}
 use Rattle.turnover_input.specs.declared.command.Command.{Command}
 use Rattle.turnover_input.specs.declared.command.Command.the-variants.{Net, Allow, Link, Enter, Send, Recv, Start, Bad}
-use Rattle.turnover_input.specs.Text.{wellMade, defaultLimit}
+use Rattle.turnover_input.specs.Text.{commandFits, defaultLimit}
 
 -- a command, if it is well made
 abbrev pub made : Command → Command
-made c = cond (wellMade c) c Bad
+made c = cond (commandFits c) c Bad
 
 -- the command of one number, of two, of three
 abbrev pub ofOne : (ℕ → Command) → Numbers → Command

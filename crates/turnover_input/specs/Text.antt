@@ -26,19 +26,19 @@ textOf brief (Start i) = ascii "start " ++ parted (i ∷ [])
 textOf brief Bad = []
 
 -- a command whose numbers their fields can hold: a station 0 to 7, n and a limit one byte, t and an allowance two, a register number four
-abbrev pub wellMade : Command → Bool
-wellMade (Net n t) = ltb n 256 && ltb t 65536
-wellMade (Allow i a) = ltb i 8 && ltb a 65536
-wellMade (Link i j l) = (ltb i 8 && ltb j 8) && ltb l 256
-wellMade (Enter i r) = ltb i 8 && ltb r 4294967296
-wellMade (Send i j r) = (ltb i 8 && ltb j 8) && ltb r 4294967296
-wellMade (Recv i j) = ltb i 8 && ltb j 8
-wellMade (Start i) = ltb i 8
-wellMade Bad = false
+abbrev pub commandFits : Command → Bool
+commandFits (Net n t) = ltb n 256 && ltb t 65536
+commandFits (Allow i a) = ltb i 8 && ltb a 65536
+commandFits (Link i j l) = (ltb i 8 && ltb j 8) && ltb l 256
+commandFits (Enter i r) = ltb i 8 && ltb r 4294967296
+commandFits (Send i j r) = (ltb i 8 && ltb j 8) && ltb r 4294967296
+commandFits (Recv i j) = ltb i 8 && ltb j 8
+commandFits (Start i) = ltb i 8
+commandFits Bad = false
 
 -- a line is a text of the well-made command c
 abbrev pub IsText : List ℕ → Command → Type 0
-IsText line c = (wellMade c ≡ true) × ((brief : Bool) × (textOf brief c ≡ line))
+IsText line c = (commandFits c ≡ true) × ((brief : Bool) × (textOf brief c ≡ line))
 
 -- what a line says: the well-made command of which it is a text, or Bad where it is a text of none
 abbrev pub Means : List ℕ → Command → Type 0
