@@ -138,8 +138,15 @@ module _ {a : List ℕ} (k : Passed a) {h : Header} (e : h ≡ headerOf (configA
 
   -- and the limits m
   module _ {m : List (List ℕ)} (l : m ≡ configAt a .limits) (i j : ℕ) where
-    pub links : isLinked (h .n) m i j ≡ (isStation (configAt a) i && neighbours (configAt a) i j)
+    links : isLinked (h .n) m i j ≡ (isStation (configAt a) i && neighbours (configAt a) i j)
     links = rw (e, l) (is-linked (configAt a) (made k) i j)
+
+    pub no-link : {P : Type 0} → isLinked (h .n) m i j ≡ false → (isStation (configAt a) i ≡ false → P) → (isStation (configAt a) i ≡ true → neighbours (configAt a) i j ≡ false → P) → P
+    no-link {P} t f g = go (isStation (configAt a) i) refl (sym links ∙ t)
+      where
+        go : (b : Bool) → isStation (configAt a) i ≡ b → (b && neighbours (configAt a) i j) ≡ false → P
+        go false p q = f p
+        go true p q = g p q
 
     pub at-link : isLinked (h .n) m i j ≡ true → AtLink a i j
     at-link t = let p = both (isStation (configAt a) i) _ (sym links ∙ t) in at-link-of k i j (p .0) (p .1)

@@ -2,33 +2,21 @@
 use Prim.Native.Nat.{ℕ, _+_, _*_, _<_}
 use mathlib.Core.Path.{_≡_, refl, sym, _∙_, ap}
 use mathlib.Core.List.{List, [], _∷_}
-use mathlib.Core.Bool.{Bool, true, false, _&&_}
 use native.Mathlib.Omega.{arith}
 use lib.ListN.{length, getD}
 use borrow.Author.Tests.{ne-eqb}
 use Rattle.codec.specs.Num.{AreBytes}
-use Rattle.reset.specs.Config.{Config, isStation, neighbours}
 use Rattle.reset.specs.Clock.{vector}
-use Rattle.reset.specs.State.{Item, message, resetReq, resetDone, State, linkAt, setLink}
-use Rattle.reset.specs.Steps.{recv, refuse, step}
-use Rattle.reset.specs.WellFormed.{wellFormed}
+use Rattle.reset.specs.State.{Item, message, resetReq, resetDone, linkAt, setLink}
 use Rattle.reset.proofs.Views.{link-set-row}
 use Rattle.link.specs.Image.{Queue, itemAt, itemOf as itemAs, itemView}
 use Rattle.link.specs.declared.Item.{Item as CodeItem}
 use Rattle.link.proofs.Laws.{parse-item}
-use Rattle.step_outcomes.proofs.Outcome.{net, recv-no-station, recv-no-neighbour}
+use Rattle.step_outcomes.proofs.Outcome.{net}
 use Rattle.area.specs.Layout.{linkBytes, configAt, stateAt}
 use Rattle.area.proofs.Formed.{link-read}
 use Rattle.steps.specs.Taking.{Holds}
 use Rattle.steps.proofs.Read.{AtLink, passed, at-link-of, count-is}
-
--- no station or no neighbour is 4
-pub recv-unknown : (c : Config) (s : State vector) → wellFormed c s ≡ true → (i j : ℕ) → (isStation c i && neighbours c i j) ≡ false → step c s (recv i j) ≡ refuse s 4
-recv-unknown c s w i j h = go (isStation c i) refl h
-  where
-    go : (t : Bool) → isStation c i ≡ t → (t && neighbours c i j) ≡ false → step c s (recv i j) ≡ refuse s 4
-    go false e h = recv-no-station c s w i j e
-    go true e h = recv-no-neighbour c s w i j e h
 
 -- ---- the items on the link from j to i
 abbrev pub rest : Queue → Queue

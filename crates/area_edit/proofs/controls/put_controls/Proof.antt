@@ -1,9 +1,6 @@
 use mathlib.Core.Path.{_∙_, ap}
-use mathlib.Core.List.{List}
 use native.Mathlib.Omega.{arith}
 use lib.ListN.{length-append}
-use Rattle.reset.specs.Clock.{vector}
-use Rattle.reset.specs.State.{Item}
 use Rattle.area_edit.proofs.ControlLaws.{less-room, room-after}
 use Rattle.reset_rules.specs.Slots.{controlOf}
 use Rattle.reset_rules.proofs.TurnLaws.{put-items}
@@ -12,27 +9,20 @@ use borrow.Author.Needs.{needs}
 use Rattle.area_edit.proofs.controls.put_controls.Statement.{statement}
 use Rattle.area_edit.proofs.controls.put_controls.Tie as tie
 
-module _ (g : tie.Start) where
-  abbrev first : List (Item vector)
-  first = controlOf (g .args .first)
-
-  abbrev second : List (Item vector)
-  second = controlOf (g .args .second)
-
 put-control-requires : tie.Need-put-control-requires
-put-control-requires c κs = let g = c .before .before in (g .pre .0, less-room _ _ (omega (arith, length-append (first g) (second g))) (g .pre .1))
+put-control-requires c κs = let g = c .before .before in (g .pre .0, less-room _ _ (omega (arith, length-append (controlOf (g .args .first)) (controlOf (g .args .second)))) (g .pre .1))
 
 put-control-requires-2 : tie.Need-put-control-requires-2
 put-control-requires-2 c κs =
     let g = c .before .before .before .before .before .before in
     let r = g .pre .1 in
-    (g .pre .0, room-after _ (first g) (second g) r (c .before .before .before .put-control .ensures (r .config) (r .state) (r .limits) (r .is)))
+    (g .pre .0, room-after _ (controlOf (g .args .first)) (controlOf (g .args .second)) r (c .before .before .before .put-control .ensures (r .config) (r .state) (r .limits) (r .is)))
 
 returns : tie.Need-returns
 returns c = λ d s r p.
     let o = c .before .before .before .before .before .before in
-    let g = o .before .before .before in
-    c .before .before .put-control2 .ensures d _ r (o .put-control .ensures d s r p) ∙ ap (image d) (put-items d _ s (first g) (second g))
+    let g = o .before .before .before .args in
+    c .before .before .put-control2 .ensures d _ r (o .put-control .ensures d s r p) ∙ ap (image d) (put-items d _ s (controlOf (g .first)) (controlOf (g .second)))
 
 pub put-controls-spec : {M : Type 1} → statement M
 put-controls-spec = tie.close (tie.spec put-control-requires put-control-requires-2 (λ c. search needs) returns)

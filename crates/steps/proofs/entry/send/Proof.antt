@@ -12,11 +12,12 @@ use Rattle.reset.specs.Clock.{vector}
 use Rattle.reset.specs.State.{message, Station as NetworkStation, State, stationAt, linkAt, setStation, putOn}
 use Rattle.reset.specs.Steps.{entry, entryOf, sending, doSend}
 use Rattle.station.specs.View.{stationView}
+use Rattle.step_outcomes.proofs.Outcome.{send-no-station, send-no-neighbour}
 use Rattle.area.specs.Layout.{image, configAt, stateAt}
 use Rattle.steps.specs.Answers.{steppedOf}
 use Rattle.steps.specs.Sending.{sendRefusal}
-use Rattle.steps.proofs.Read.{Passed, passed, refuses, does, n-small, t-is, t-small, AtLink, links, at-link, limit-is, station-is, count-is}
-use Rattle.steps.proofs.SendLaws.{Accepted, send-unknown, send-refused, send-accepted}
+use Rattle.steps.proofs.Read.{Passed, passed, refuses, does, n-small, t-is, t-small, AtLink, no-link, at-link, limit-is, station-is, count-is}
+use Rattle.steps.proofs.SendLaws.{Accepted, send-refused, send-accepted}
 use borrow.Author.Needs.{needs}
 use Rattle.steps.proofs.entry.send.Statement.{statement}
 use Rattle.steps.proofs.entry.send.Tie as tie
@@ -83,8 +84,8 @@ returns c =
     let l = c .before .before in
     let k = known (l .before) in
     refuses k
-    (send-unknown _ _ (k .formed) _ _ _
-    (sym (links k (l .before .before .before .header-of .ensures) (l .before .limits-of .ensures) _ _) ∙ sym (l .linked .ensures) ∙ not-true _ (c .before .if1 .taken)))
+    (no-link k (l .before .before .before .header-of .ensures) (l .before .limits-of .ensures) _ _ (sym (l .linked .ensures) ∙ not-true _ (c .before .if1 .taken))
+    (send-no-station _ _ (k .formed) _ _ _) (send-no-neighbour _ _ (k .formed) _ _ _))
     (c .refused .ensures)
 
 send-refusal-requires : tie.Need-send-refusal-requires

@@ -4,10 +4,10 @@ use mathlib.Core.List.{List}
 use native.Mathlib.Omega.{arith}
 use denote.Ref.{now}
 use borrow.Author.Tests.{not-true, not-false}
-use Rattle.step_outcomes.proofs.Outcome.{recv-empty}
+use Rattle.step_outcomes.proofs.Outcome.{recv-no-station, recv-no-neighbour, recv-empty}
 use Rattle.rules.specs.Setup.{headerConfig}
-use Rattle.steps.proofs.Read.{Passed, passed, refuses, n-small, AtLink, links, at-link}
-use Rattle.steps.proofs.ReceiptLaws.{recv-unknown, holds-none}
+use Rattle.steps.proofs.Read.{Passed, passed, refuses, n-small, AtLink, no-link, at-link}
+use Rattle.steps.proofs.ReceiptLaws.{holds-none}
 use borrow.Author.Needs.{needs}
 use Rattle.steps.proofs.receive.recv.Statement.{statement}
 use Rattle.steps.proofs.receive.recv.Tie as tie
@@ -36,8 +36,8 @@ returns c =
     let l = c .before .before in
     let k = known (l .before) in
     refuses k
-    (recv-unknown _ _ (k .formed) _ _
-    (sym (links k (l .before .before .before .header-of .ensures) (l .before .limits-of .ensures) _ _) ∙ sym (l .linked .ensures) ∙ not-true _ (c .before .if1 .taken)))
+    (no-link k (l .before .before .before .header-of .ensures) (l .before .limits-of .ensures) _ _ (sym (l .linked .ensures) ∙ not-true _ (c .before .if1 .taken))
+    (recv-no-station _ _ (k .formed) _ _) (recv-no-neighbour _ _ (k .formed) _ _))
     (c .refused .ensures)
 
 returns-2 : tie.Need-returns-2
