@@ -31,7 +31,7 @@ use Rattle.station.specs.Image.{modeByte, modeOf}
 use Rattle.steps.specs.Answers.{modeCode, steppedOf}
 use Rattle.steps.specs.declared.answer.Answer.{Answer as CodeAnswer}
 use Rattle.steps.specs.declared.answer.Answer.the-variants.{Refused as NotDone, Entered, InMode}
-use Rattle.melontime.specs.Numbers.{entryMade, tells, modes, counts, stepNumber, restNumber, orderNumber, verdictNumber, blockNumber, countedNumber}
+use Rattle.melontime.specs.Numbers.{Alike, entryMade, tells, modes, counts, stepNumber, restNumber, orderNumber, verdictNumber, blockNumber, countedNumber}
 use Rattle.melontime.proofs.Tests.{by-test}
 
 -- the answer x is read back from its number; so one number is one answer
@@ -54,10 +54,6 @@ abbrev pub Low : Answer → Type 0
 Low (refused k) = k < 10
 Low (entry e) = Unit {0}
 Low (modeAfter i m p) = Unit {0}
-
--- the same answer, but for the record of an entry, which is written beside the number, and the station, which the call names
-abbrev pub Alike : Answer → Answer → Type 0
-Alike o q = steppedOf o .answer ≡ steppedOf q .answer
 
 guarded : (s : State vector) (t : Bool) (k : ℕ) (o : Outcome vector) → k < 10 → Low (o .answer) → Low (guard s t k o .answer)
 unfolding guard

@@ -1,4 +1,5 @@
 -- The number that a host's call returns for each answer. A refusal is its own number; the others start at 100 or 1,000. Assumes nothing.
+use mathlib.Core.Path.{_≡_}
 use Prim.Native.Nat.{ℕ, _+_, _*_}
 use Rattle.clock.specs.declared.Verdict.{Verdict}
 use Rattle.clock.specs.declared.Verdict.the-variants.{Before, After, Same, Unordered}
@@ -12,6 +13,7 @@ use Rattle.reset.specs.Steps.{Answer, refused, entry, modeAfter}
 use Rattle.area_calls.specs.Calls.{RestAnswer, yes, no, restRefused}
 use Rattle.station.specs.Image.{modeByte}
 use Rattle.station.specs.View.{modeView}
+use Rattle.steps.specs.Answers.{steppedOf}
 use Rattle.steps.specs.declared.answer.Answer.{Answer as CodeAnswer}
 use Rattle.steps.specs.declared.answer.Answer.the-variants.{Refused as NotDone, Entered, InMode}
 use mathlib.Core.Bool.{Bool, true, false}
@@ -53,6 +55,11 @@ abbrev pub stepNumber : Answer → ℕ
 stepNumber (refused k) = k
 stepNumber (entry e) = entryMade
 stepNumber (modeAfter i m p) = tells + (modes * p + modeByte m)
+
+-- answers of steps that a host is told alike: equal but for the record of an entry, which is written beside the number, and the
+-- station, which the call names
+abbrev pub Alike : Answer → Answer → Type 0
+Alike o q = steppedOf o .answer ≡ steppedOf q .answer
 
 -- rest: 100 yes, 101 no
 abbrev pub restNumber : RestAnswer → ℕ
