@@ -13,6 +13,7 @@ use Rattle.reset.specs.State.{State}
 use Rattle.reset.specs.Steps.{Step, step}
 use Rattle.reset.specs.Network.{initial, Answered, log}
 use Rattle.reset.specs.WellFormed.{wellFormed, StepsFit}
+use Rattle.reset.proofs.ClockRange.{vector-range}
 use Rattle.reset.proofs.Formed.{initial-well-formed, step-well-formed}
 use Rattle.rules.specs.Setup.{blockConfig}
 use Rattle.rules.proofs.Laws.{accepted-well-made}
@@ -36,13 +37,13 @@ module _ (c : Config) where
   pub log-on-image : (s : State vector) → wellFormed c s ≡ true → (ps : List Step) → StepsFit ps → logOn (image c s) ps ≡ log c s ps
   log-on-image s w [] f = refl
   log-on-image s w (p ∷ ps) f =
-      rw (step-on-image c s w p) (ap (λ (l : List Answered). record { step = p; answer = step c s p .answer } ∷ l) (log-on-image (step c s p .after) (step-well-formed c s w p (f .0)) ps (f .1)))
+      rw (step-on-image c s w p) (ap (λ (l : List Answered). record { step = p; answer = step c s p .answer } ∷ l) (log-on-image (step c s p .after) (step-well-formed vector-range c s w p (f .0)) ps (f .1)))
 
   pub takens-on-image : (s : State vector) → wellFormed c s ≡ true → (ps : List Step) → StepsFit ps → takensOn (image c s) ps ≡ takens c s ps
   takens-on-image s w [] f = refl
   takens-on-image s w (p ∷ ps) f =
       rw (step-on-image c s w p, state-back c s (images c s w))
-      (ap (withTaken (step c s p .answer) (taken s p)) (takens-on-image (step c s p .after) (step-well-formed c s w p (f .0)) ps (f .1)))
+      (ap (withTaken (step c s p .answer) (taken s p)) (takens-on-image (step c s p .after) (step-well-formed vector-range c s w p (f .0)) ps (f .1)))
 
 -- what setup accepts
 pub setup-accepts : (block a : List ℕ) → setupOn block a .answer ≡ 0
@@ -60,5 +61,5 @@ demand3-over-areas block a b h ps f =
     let p = setup-accepts block a h in
     let c = blockConfig block in
     let m = accepted-well-made block b (p .0) in
-    let w = initial-well-formed c m (p .1) in
+    let w = initial-well-formed vector-range c m (p .1) in
     rw (p .2, log-on-image c (initial vector c) w ps f, takens-on-image c (initial vector c) w ps f) (demand3 c m (p .1) ps)

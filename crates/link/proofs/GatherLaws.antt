@@ -17,7 +17,7 @@ use Rattle.clock.specs.Range.{ceilingOf, countsFit as fit}
 use Rattle.clock.proofs.MergeLaws.{merged-at}
 use Rattle.reset.proofs.Views.{all-same}
 use Rattle.reset.specs.Config.{isStation}
-use Rattle.reset.specs.WellFormed.{timestampFits}
+use Rattle.reset.specs.Clock.{timestampFits}
 use Rattle.link.specs.Image.{itemTest, sized}
 
 leb-max : (a b m : ℕ) → leb (max a b) m ≡ (leb a m && leb b m)

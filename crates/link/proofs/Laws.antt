@@ -23,9 +23,9 @@ use Rattle.codec.proofs.BlankLaws.{blank-length, blank-append, blank-drop}
 use Rattle.reset.specs.Reach.{limit, linked}
 use Rattle.reset.specs.Config.{Config, isStation, neighbours, places, wellMade}
 use Rattle.reset.proofs.ConfigLaws.{shape, linked-small}
-use Rattle.reset.specs.Clock.{vector}
+use Rattle.reset.specs.Clock.{vector, countFits, timestampFits}
 use Rattle.reset.specs.State.{Item, message, resetReq, resetDone}
-use Rattle.reset.specs.WellFormed.{countFits, timestampFits, itemFits, itemFitsAt, linkFits}
+use Rattle.reset.specs.WellFormed.{itemFits, itemFitsAt, linkFits}
 use Rattle.link.specs.Image.{Queue, itemOf, imageItem, parseItem, itemTest, imageLink, placeAt, itemAt, parseLink, itemTestAt, itemsTest, queueTest, linkTest, sized, RangedItem, RangedLink}
 
 -- ---- an item

@@ -9,9 +9,8 @@ use Rattle.codec.specs.Num.{bytesOf, numAt, numsOf, numsAt}
 use Rattle.codec.specs.Rows.{rows, upto}
 use Rattle.codec.specs.Every.{blank, every, allZero}
 use Rattle.reset.specs.Config.{Config, places}
-use Rattle.reset.specs.Clock.{vector}
+use Rattle.reset.specs.Clock.{vector, timestampFits}
 use Rattle.reset.specs.State.{Item, message, resetReq, resetDone}
-use Rattle.reset.specs.WellFormed.{timestampFits}
 use Rattle.link.specs.declared.Item as declared
 
 -- ---- sizes in bytes: of an item, of all places of a link, and of a link, whose first byte is the count of its items

@@ -14,56 +14,15 @@ use Rattle.codec.specs.Every.{every}
 use Rattle.codec.specs.Put.{put}
 use Rattle.codec.proofs.EveryLaws.{both, join, every-at, every-of}
 use Rattle.codec.proofs.PutLaws.{put-same, put-other, put-keeps}
-use Rattle.clock.specs.Timestamp.{zeros, merged}
-use Rattle.clock.proofs.MergeLaws.{merged-length, merged-at}
+use Rattle.clock.specs.Timestamp.{zeros}
 use Rattle.reset.specs.Config.{Config, isStation, neighbours, limitAt, allowanceAt}
-use Rattle.reset.specs.Clock.{vector}
+use Rattle.reset.specs.Clock.{Clock}
 use Rattle.reset.specs.State.{Item, resetReq, resetDone, Station, State, noneSeen, stationAt, linkAt, reqSeen, doneSeen, sentTo, setStation, setLink, putOn, putLinked, putFirst, putOnAll}
 use Rattle.reset.specs.Steps.{begun, renewed, woken, beginReset, renew, wake, Rule, ruleA, ruleB, ruleC, noRule, ruleOf, apply, turnOnce, turn, entered, sending, receiving, withReq, withDone}
-use Rattle.reset.specs.WellFormed.{ofStation, countFits, timestampFits, modeFits, phaseFits, ownFits, sentFitsTo, sentFits, marksFitFrom, marksFit, stationFits, itemFits, rowLong, shapeFits}
+use Rattle.reset.specs.WellFormed.{modeFits, phaseFits, ownFits, sentFitsTo, sentFits, marksFitFrom, marksFit, stationFits, itemFits, rowLong, shapeFits}
+use Rattle.reset.proofs.ClockRange.{ClockRange}
 use Rattle.reset.proofs.Views.{zeros-at, none-at, station-set, station-set-other, link-set-station, station-set-link, link-set, link-set-row, link-set-col}
 use Rattle.reset.proofs.Cases.{by-test, by-dec}
-
--- ---- counts: eight, and 0 for stations n and above
-pub record Counts (c : Config) (v : List ℕ) : Type 0 where
-  pub eight : length v ≡ 8
-  pub none-above : (k : ℕ) → k < 8 → isStation c k ≡ false → getD v k 0 ≡ 0
-
-module _ (c : Config) (v : List ℕ) where
-  pub counts-of : (b : ℕ) → timestampFits c b v ≡ true → Counts c v
-  unfolding timestampFits
-  counts-of b h =
-      let p = both (eqb (length v) 8) _ h in
-      record {
-        eight = eqb-true _ _ (p .0);
-        none-above = λ k l z. let q : leb (getD v k 0) (ofStation c k b) ≡ true = every-at 8 (countFits c b v) k (p .1) l in
-            let r : getD v k 0 ≤ 0 = leb-true _ _ (rw z at q) in omega arith;
-      }
-
-  pub counts-fit : (b : ℕ) → Counts c v → ((k : ℕ) → k < 8 → getD v k 0 ≤ b) → timestampFits c b v ≡ true
-  unfolding timestampFits
-  counts-fit b h u =
-      join (eqb (length v) 8) _ (eq-eqb _ _ (h .eight))
-      (every-of 8 (countFits c b v) (λ k l. by-test (isStation c k) (λ e. rw e (le-leb _ _ (u k l))) (λ e. rw (e, h .none-above k l e))))
-
-pub zeros-counts : (c : Config) → Counts c zeros
-unfolding zeros
-zeros-counts c = record { eight = refl; none-above = λ k l e. zeros-at k }
-
--- i's own count replaced
-own-counts : (c : Config) (i : ℕ) → isStation c i ≡ true → (v : List ℕ) (b : ℕ) → i < 8 → Counts c v → Counts c (put 0 v i b)
-own-counts c i si v b il h =
-    record {
-      eight = put-keeps 0 v i b (omega (arith, h .eight)) ∙ h .eight;
-      none-above = λ k l e. put-other 0 v i k b (λ p. true≢false (sym si ∙ ap (isStation c) (sym p) ∙ e)) ∙ h .none-above k l e;
-    }
-
-merged-counts : (c : Config) (v w : List ℕ) → Counts c v → Counts c w → Counts c (merged v w)
-merged-counts c v w h g =
-    record {
-      eight = merged-length v w ∙ h .eight;
-      none-above = λ k l e. merged-at v w k (omega (arith, h .eight)) ∙ omega (arith, h .none-above k l e, g .none-above k l e);
-    }
 
 -- ---- messages sent: eight numbers within limits
 pub record Sent (c : Config) (i p : ℕ) (l : List ℕ) : Type 0 where
@@ -100,18 +59,18 @@ marks-more c i l j jl ij h =
     }
 
 -- ---- the record of station i, but for its bounds
-pub record Fits (c : Config) (i : ℕ) (x : Station vector) : Type 0 where
-  pub counts : Counts c (x .time)
+pub record Fits {K : Clock} (L : ClockRange K) (c : Config) (i : ℕ) (x : Station K) : Type 0 where
+  pub time : L .Held c i (x .time)
   pub own : x .own ≤ allowanceAt c (x .phase) i
   pub sent : Sent c i (x .phase) (x .sent)
   pub reqs : Marks c i (x .reqs)
   pub dones : Marks c i (x .dones)
 
-module _ (c : Config) (i : ℕ) (x : Station vector) where
-  pub fits-of : stationFits c i x ≡ true → Fits c i x
+module _ {K : Clock} (L : ClockRange K) (c : Config) (i : ℕ) (x : Station K) where
+  pub fits-of : stationFits c i x ≡ true → Fits L c i x
   unfolding stationFits sentFits marksFit
   fits-of h =
-      let p = both (timestampFits c (ofStation c i (c .t)) (x .time)) _ h in
+      let p = both (K .timeFits c i (x .time)) _ h in
       let o = both (ownFits c i x) _ (both (phaseFits c i x) _ (both (modeFits c i x) _ (p .1) .1) .1) in
       let a = both (eqb (length (x .sent)) 8 && every 8 (sentFitsTo c i x)) _ (o .1) in
       let s = both (eqb (length (x .sent)) 8) _ (a .0) in
@@ -120,7 +79,7 @@ module _ (c : Config) (i : ℕ) (x : Station vector) where
       let m : (j : ℕ) → j < 8 → neighbours c i j ≡ false → (not (reqSeen x j) ≡ true) × (not (doneSeen x j) ≡ true)
       = λ j l e. both (not (reqSeen x j)) _ (rw e at (every-at 8 (marksFitFrom c i x) j (d .1) l)) in
       record {
-        counts = counts-of c (x .time) _ (p .0);
+        time = L .held c i (x .time) (p .0);
         own = leb-true _ _ (o .0);
         sent = record { eight = eqb-true _ _ (s .0); within = λ j l. leb-true _ _ (every-at 8 (sentFitsTo c i x) j (s .1) l) };
         reqs = record { eight = eqb-true _ _ (r .0); none-far = λ j l e. not-true _ (m j l e .0) };
@@ -128,11 +87,10 @@ module _ (c : Config) (i : ℕ) (x : Station vector) where
       }
 
   -- with the bounds
-  pub fits-back : (b : ℕ) → ofStation c i (c .t) ≡ b → modeFits c i x ≡ true → phaseFits c i x ≡ true → ((k : ℕ) → k < 8 → getD (x .time) k 0 ≤ b)
-      → Fits c i x → stationFits c i x ≡ true
+  pub fits-back : K .timeFits c i (x .time) ≡ true → modeFits c i x ≡ true → phaseFits c i x ≡ true → Fits L c i x → stationFits c i x ≡ true
   unfolding stationFits sentFits marksFit
-  fits-back b e m p u h =
-      join (timestampFits c (ofStation c i (c .t)) (x .time)) _ (rw e (counts-fit c (x .time) b (h .counts) u))
+  fits-back f m p h =
+      join (K .timeFits c i (x .time)) _ f
       (join (modeFits c i x) _ m
       (join (phaseFits c i x) _ p
       (join (ownFits c i x) _ (le-leb _ _ (h .own))
@@ -143,25 +101,25 @@ module _ (c : Config) (i : ℕ) (x : Station vector) where
       (every-of 8 (marksFitFrom c i x) (λ j l. by-test (neighbours c i j) (λ z. rw z) (λ z. rw (z, h .reqs .none-far j l z, h .dones .none-far j l z))))))))))
 
 -- ---- how the record changes
-module _ (c : Config) (i : ℕ) (x : Station vector) (h : Fits c i x) where
+module _ {K : Clock} (L : ClockRange K) (c : Config) (i : ℕ) (x : Station K) (h : Fits L c i x) where
   module _ (il : i < 8) (si : isStation c i ≡ true) where
-    pub fits-entered : x .own < allowanceAt c (x .phase) i → Fits c i (entered i x)
-    fits-entered l = record { counts = own-counts c i si (x .time) _ il (h .counts); own = l; sent = h .sent; reqs = h .reqs; dones = h .dones }
+    pub fits-entered : x .own < allowanceAt c (x .phase) i → Fits L c i (entered i x)
+    fits-entered l = record { time = L .tick-held c i (x .time) si il (h .time); own = l; sent = h .sent; reqs = h .reqs; dones = h .dones }
 
-    pub fits-sending : (j : ℕ) → j < 8 → sentTo x j < limitAt c (x .phase) i j → Fits c i (sending i j x)
+    pub fits-sending : (j : ℕ) → j < 8 → sentTo x j < limitAt c (x .phase) i j → Fits L c i (sending i j x)
     fits-sending j jl l =
         record {
-          counts = own-counts c i si (x .time) _ il (h .counts);
+          time = L .sent-held c i j _ (L .tick-held c i (x .time) si il (h .time));
           own = h .own;
           sent = sent-more c i (x .phase) (x .sent) j jl l (h .sent);
           reqs = h .reqs;
           dones = h .dones;
         }
 
-    pub fits-receiving : (j : ℕ) (w : List ℕ) → Counts c w → Fits c i (receiving i j w x)
+    pub fits-receiving : (j : ℕ) (w : K .Load) → K .loadFits c w ≡ true → Fits L c i (receiving i j w x)
     fits-receiving j w g =
         record {
-          counts = own-counts c i si (merged (x .time) w) _ il (merged-counts c (x .time) w (h .counts) g);
+          time = L .take-held c i j w (x .time) si il g (h .time);
           own = h .own;
           sent = h .sent;
           reqs = h .reqs;
@@ -169,46 +127,46 @@ module _ (c : Config) (i : ℕ) (x : Station vector) (h : Fits c i x) where
         }
 
   module _ (j : ℕ) (jl : j < 8) (ij : neighbours c i j ≡ true) where
-    pub fits-req : Fits c i (withReq j x)
-    fits-req = record { counts = h .counts; own = h .own; sent = h .sent; reqs = marks-more c i (x .reqs) j jl ij (h .reqs); dones = h .dones }
+    pub fits-req : Fits L c i (withReq j x)
+    fits-req = record { time = h .time; own = h .own; sent = h .sent; reqs = marks-more c i (x .reqs) j jl ij (h .reqs); dones = h .dones }
 
-    pub fits-done : Fits c i (withDone j x)
-    fits-done = record { counts = h .counts; own = h .own; sent = h .sent; reqs = h .reqs; dones = marks-more c i (x .dones) j jl ij (h .dones) }
+    pub fits-done : Fits L c i (withDone j x)
+    fits-done = record { time = h .time; own = h .own; sent = h .sent; reqs = h .reqs; dones = marks-more c i (x .dones) j jl ij (h .dones) }
 
-  fits-begun : Fits c i (begun x)
-  fits-begun = record { counts = h .counts; own = h .own; sent = h .sent; reqs = h .reqs; dones = none-marks c i }
+  fits-begun : Fits L c i (begun x)
+  fits-begun = record { time = h .time; own = h .own; sent = h .sent; reqs = h .reqs; dones = none-marks c i }
 
-  fits-renewed : Fits c i (renewed x)
-  fits-renewed = record { counts = zeros-counts c; own = omega arith; sent = zeros-sent c i _; reqs = none-marks c i; dones = h .dones }
+  fits-renewed : Fits L c i (renewed x)
+  fits-renewed = record { time = L .held c i (K .start) (L .start-fits c i); own = omega arith; sent = zeros-sent c i _; reqs = none-marks c i; dones = h .dones }
 
-  fits-woken : Fits c i (woken x)
-  fits-woken = record { counts = h .counts; own = h .own; sent = h .sent; reqs = h .reqs; dones = h .dones }
+  fits-woken : Fits L c i (woken x)
+  fits-woken = record { time = h .time; own = h .own; sent = h .sent; reqs = h .reqs; dones = h .dones }
 
 -- ---- eight stations, eight rows of eight links
-pub record Shaped (s : State vector) : Type 0 where
+pub record Shaped {K : Clock} (s : State K) : Type 0 where
   pub stations8 : length (s .stations) ≡ 8
   pub links8 : length (s .links) ≡ 8
   pub row8 : (a : ℕ) → a < 8 → length (getD (s .links) a []) ≡ 8
 
-pub shaped-of : (s : State vector) → shapeFits s ≡ true → Shaped s
+pub shaped-of : {K : Clock} (s : State K) → shapeFits s ≡ true → Shaped s
 unfolding shapeFits
 shaped-of s h =
     let p = both (eqb (length (s .stations)) 8) _ h in
     let q = both (eqb (length (s .links)) 8) _ (p .1) in
     record { stations8 = eqb-true _ _ (p .0); links8 = eqb-true _ _ (q .0); row8 = λ a l. eqb-true _ _ (every-at 8 (rowLong s) a (q .1) l) }
 
-pub shape-fits : (s : State vector) → Shaped s → shapeFits s ≡ true
+pub shape-fits : {K : Clock} (s : State K) → Shaped s → shapeFits s ≡ true
 unfolding shapeFits
 shape-fits s h =
     join (eqb (length (s .stations)) 8) _ (eq-eqb _ _ (h .stations8))
     (join (eqb (length (s .links)) 8) _ (eq-eqb _ _ (h .links8)) (every-of 8 (rowLong s) (λ a l. eq-eqb _ _ (h .row8 a l))))
 
-shaped-station : (s : State vector) (i : ℕ) (x : Station vector) → i < 8 → Shaped s → Shaped (setStation s i x)
+shaped-station : {K : Clock} (s : State K) (i : ℕ) (x : Station K) → i < 8 → Shaped s → Shaped (setStation s i x)
 unfolding setStation
 shaped-station s i x il h =
     record { stations8 = put-keeps _ (s .stations) i x (omega (arith, h .stations8)) ∙ h .stations8; links8 = h .links8; row8 = h .row8 }
 
-shaped-link : (s : State vector) (i j : ℕ) (q : List (Item vector)) → i < 8 → j < 8 → Shaped s → Shaped (setLink s i j q)
+shaped-link : {K : Clock} (s : State K) (i j : ℕ) (q : List (Item K)) → i < 8 → j < 8 → Shaped s → Shaped (setLink s i j q)
 unfolding setLink
 shaped-link s i j q il jl h =
     record {
@@ -220,24 +178,24 @@ shaped-link s i j q il jl h =
     }
 
 -- ---- the items of a link
-abbrev pub ItemsFit : Config → List (Item vector) → Type 0
+abbrev pub ItemsFit : {K : Clock} → Config → List (Item K) → Type 0
 ItemsFit c q = (k : ℕ) → itemFits c (getD q k resetReq) ≡ true
 
-items-more : (c : Config) (q : List (Item vector)) (y : Item vector) → ItemsFit c q → itemFits c y ≡ true → ItemsFit c (q ++ (y ∷ []))
+items-more : {K : Clock} (c : Config) (q : List (Item K)) (y : Item K) → ItemsFit c q → itemFits c y ≡ true → ItemsFit c (q ++ (y ∷ []))
 items-more c [] y h e zero = e
 items-more c [] y h e (suc k) = refl
 items-more c (x ∷ q) y h e zero = h zero
 items-more c (x ∷ q) y h e (suc k) = items-more c q y (λ m. h (suc m)) e k
 
 -- ---- a state on the way through a step of station i: every part but the bounds of station i and of the links
-pub record Parts (c : Config) (i : ℕ) (s : State vector) : Type 0 where
+pub record Parts {K : Clock} (L : ClockRange K) (c : Config) (i : ℕ) (s : State K) : Type 0 where
   pub shape : Shaped s
-  pub here : Fits c i (stationAt s i)
+  pub here : Fits L c i (stationAt s i)
   pub others : (k : ℕ) → k < 8 → k ≢ i → stationFits c k (stationAt s k) ≡ true
   pub items : (a b : ℕ) → a < 8 → b < 8 → ItemsFit c (linkAt s a b)
 
-module _ (c : Config) (i : ℕ) (il : i < 8) where
-  pub parts-station : (s : State vector) (x : Station vector) → Fits c i x → Parts c i s → Parts c i (setStation s i x)
+module _ {K : Clock} (L : ClockRange K) (c : Config) (i : ℕ) (il : i < 8) where
+  pub parts-station : (s : State K) (x : Station K) → Fits L c i x → Parts L c i s → Parts L c i (setStation s i x)
   parts-station s x f h =
       record {
         shape = shaped-station s i x il (h .shape);
@@ -246,7 +204,7 @@ module _ (c : Config) (i : ℕ) (il : i < 8) where
         items = λ a b al bl. rw link-set-station (h .items a b al bl);
       }
 
-  pub parts-link : (s : State vector) (a b : ℕ) (q : List (Item vector)) → a < 8 → b < 8 → ItemsFit c q → Parts c i s → Parts c i (setLink s a b q)
+  pub parts-link : (s : State K) (a b : ℕ) (q : List (Item K)) → a < 8 → b < 8 → ItemsFit c q → Parts L c i s → Parts L c i (setLink s a b q)
   parts-link s a b q al bl f h =
       record {
         shape = shaped-link s a b q al bl (h .shape);
@@ -257,39 +215,39 @@ module _ (c : Config) (i : ℕ) (il : i < 8) where
             (λ p. rw (link-set-row s a b q a′ b′ p) (h .items a′ b′ al′ bl′));
       }
 
-  module _ (y : Item vector) (f : itemFits c y ≡ true) where
-    pub parts-put : (s : State vector) (b : ℕ) → b < 8 → Parts c i s → Parts c i (putOn s i b y)
+  module _ (y : Item K) (f : itemFits c y ≡ true) where
+    pub parts-put : (s : State K) (b : ℕ) → b < 8 → Parts L c i s → Parts L c i (putOn s i b y)
     parts-put s b bl h = parts-link s i b _ il bl (items-more c (linkAt s i b) y (h .items i b il bl) f) h
 
-    parts-linked : (s : State vector) (b : ℕ) → b < 8 → Parts c i s → Parts c i (putLinked c s i b y)
+    parts-linked : (s : State K) (b : ℕ) → b < 8 → Parts L c i s → Parts L c i (putLinked c s i b y)
     unfolding putLinked
     parts-linked s b bl h = by-test (neighbours c i b) (λ e. rw e (parts-put s b bl h)) (λ e. rw e h)
 
-    parts-first : (m : ℕ) → m ≤ 8 → (s : State vector) → Parts c i s → Parts c i (putFirst m c s i y)
+    parts-first : (m : ℕ) → m ≤ 8 → (s : State K) → Parts L c i s → Parts L c i (putFirst m c s i y)
     unfolding putFirst
     parts-first zero l s h = h
     parts-first (suc m) l s h = parts-linked (putFirst m c s i y) m (omega arith) (parts-first m (omega arith) s h)
 
-    parts-all : (s : State vector) → Parts c i s → Parts c i (putOnAll c s i y)
+    parts-all : (s : State K) → Parts L c i s → Parts L c i (putOnAll c s i y)
     unfolding putOnAll
     parts-all s h = parts-first 8 (omega arith) s h
 
   -- begin and the reset rules
-  pub parts-begin : (s : State vector) → Parts c i s → Parts c i (beginReset c i s)
+  pub parts-begin : (s : State K) → Parts L c i s → Parts L c i (beginReset c i s)
   unfolding beginReset
-  parts-begin s h = parts-all resetReq refl _ (parts-station s _ (fits-begun c i _ (h .here)) h)
+  parts-begin s h = parts-all resetReq refl _ (parts-station s _ (fits-begun L c i _ (h .here)) h)
 
-  parts-apply : (s : State vector) → Parts c i s → (r : Rule) → Parts c i (apply c i s r)
+  parts-apply : (s : State K) → Parts L c i s → (r : Rule) → Parts L c i (apply c i s r)
   unfolding renew wake
-  parts-apply s h ruleA = parts-all resetDone refl _ (parts-station s _ (fits-renewed c i _ (h .here)) h)
-  parts-apply s h ruleB = parts-station s _ (fits-woken c i _ (h .here)) h
+  parts-apply s h ruleA = parts-all resetDone refl _ (parts-station s _ (fits-renewed L c i _ (h .here)) h)
+  parts-apply s h ruleB = parts-station s _ (fits-woken L c i _ (h .here)) h
   parts-apply s h ruleC = parts-begin s h
   parts-apply s h noRule = h
 
-  parts-once : (s : State vector) → Parts c i s → Parts c i (turnOnce c i s)
+  parts-once : (s : State K) → Parts L c i s → Parts L c i (turnOnce c i s)
   unfolding turnOnce
   parts-once s h = parts-apply s h (ruleOf c i (stationAt s i))
 
-  pub parts-turn : (s : State vector) → Parts c i s → Parts c i (turn c i s)
+  pub parts-turn : (s : State K) → Parts L c i s → Parts L c i (turn c i s)
   unfolding turn
   parts-turn s h = parts-once _ (parts-once _ (parts-once s h))

@@ -11,5 +11,6 @@ pub mod Keeps
 pub mod Summary
 pub mod Initial
 pub mod Coherent
+pub mod ClockRange
 pub mod FormedParts
 pub mod Formed

@@ -1,8 +1,13 @@
--- A clock: what a station keeps of time, what a message carries of it, and what the steps do to both. The network is written over any clock, for its rules
--- never look into a timestamp; the network of document 01 is that of the vector clock, below. Assumes nothing.
+-- A clock: what a station keeps of time, what a message carries of it, what the steps do to both, and which of them are in range. The network is written
+-- over any clock, for its rules never look into a timestamp; the network of document 01 is that of the vector clock, below. Assumes nothing.
 use Prim.Native.Nat.{ℕ}
 use mathlib.Core.List.{List}
+use mathlib.Core.Bool.{Bool, cond, _&&_}
+use lib.Dec.{eqb, leb}
+use lib.ListN.{getD, length}
+use Rattle.codec.specs.Every.{every}
 use Rattle.clock.specs.Timestamp.{zeros, tick, raised}
+use Rattle.reset.specs.Config.{Config, isStation}
 
 pub record Clock : Type 1 where
   -- what a station holds, and what a message carries
@@ -19,8 +24,23 @@ pub record Clock : Type 1 where
   pub take : ℕ → ℕ → Load → Time → Time
   -- the eight counts of station i, which an entry bears as its timestamp (document 01: stamp)
   pub stamp : ℕ → Time → List ℕ
+  -- in range in a well-formed state: what station i holds, which is the start for i of n and above; what a message carries
+  pub timeFits : Config → ℕ → Time → Bool
+  pub loadFits : Config → Load → Bool
 
--- The vector clock: a station holds its eight counts, a message carries the sender's, and they are the timestamp.
+-- ---- counts in range
+-- b for a station, 0 for n and above
+abbrev pub ofStation : Config → ℕ → ℕ → ℕ
+ofStation c i b = cond (isStation c i) b 0
+
+-- eight counts, each at most b, and 0 for stations n and above
+abbrev pub countFits : Config → ℕ → List ℕ → ℕ → Bool
+countFits c b v k = leb (getD v k 0) (ofStation c k b)
+
+unfoldable pub timestampFits : Config → ℕ → List ℕ → Bool
+timestampFits c b v = eqb (length v) 8 && every 8 (countFits c b v)
+
+-- The vector clock: a station holds its eight counts, a message carries the sender's, and they are the timestamp. Each count is at most t.
 abbrev pub vector : Clock
 vector =
     record {
@@ -32,4 +52,6 @@ vector =
       sent = λ i j v. v;
       take = λ i j w v. raised i v w;
       stamp = λ i v. v;
+      timeFits = λ c i v. timestampFits c (ofStation c i (c .t)) v;
+      loadFits = λ c v. timestampFits c (c .t) v;
     }

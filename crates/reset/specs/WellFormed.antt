@@ -8,24 +8,13 @@ use lib.ListN.{getD, length}
 use Rattle.codec.specs.Every.{every}
 use Rattle.clock.specs.Range.{lastPhase}
 use Rattle.reset.specs.Config.{Config, isStation, neighbours, limitAt, allowanceAt, places, wellMade, networkRules}
-use Rattle.reset.specs.Clock.{Clock, vector}
+use Rattle.reset.specs.Clock.{Clock, ofStation}
 use Rattle.reset.specs.State.{Item, message, resetReq, resetDone, Station, State, stationAt, linkAt, reqSeen, doneSeen, sentTo}
 use Rattle.reset.specs.Steps.{Step, enter, send, recv, start, isNormal}
 
 -- a register number is at most 4,294,967,295
 abbrev pub registerFits : ℕ → Bool
 registerFits g = leb g 4294967295
-
--- b for a station, 0 for n and above
-abbrev pub ofStation : Config → ℕ → ℕ → ℕ
-ofStation c i b = cond (isStation c i) b 0
-
--- eight counts, each at most b, and 0 for stations n and above
-abbrev pub countFits : Config → ℕ → List ℕ → ℕ → Bool
-countFits c b v k = leb (getD v k 0) (ofStation c k b)
-
-unfoldable pub timestampFits : Config → ℕ → List ℕ → Bool
-timestampFits c b v = eqb (length v) 8 && every 8 (countFits c b v)
 
 -- ---- the record of station i. For i of n and above every bound is 0, so that the record is the blank one
 -- normal, mute or stand-by
@@ -54,23 +43,22 @@ marksFitFrom c i x j = neighbours c i j || (not (reqSeen x j) && not (doneSeen x
 unfoldable pub marksFit : {K : Clock} → Config → ℕ → Station K → Bool
 marksFit c i x = eqb (length (x .reqs)) 8 && (eqb (length (x .dones)) 8 && every 8 (marksFitFrom c i x))
 
-unfoldable pub stationFits : Config → ℕ → Station vector → Bool
-stationFits c i x =
-    timestampFits c (ofStation c i (c .t)) (x .time) && (modeFits c i x && (phaseFits c i x && (ownFits c i x && (sentFits c i x && marksFit c i x))))
+unfoldable pub stationFits : {K : Clock} → Config → ℕ → Station K → Bool
+stationFits {K} c i x = K .timeFits c i (x .time) && (modeFits c i x && (phaseFits c i x && (ownFits c i x && (sentFits c i x && marksFit c i x))))
 
 -- ---- the link from i to j
--- a message's counts and register number in range
-abbrev pub itemFits : Config → Item vector → Bool
-itemFits c (message v g) = timestampFits c (c .t) v && registerFits g
+-- what a message carries, and its register number, in range
+abbrev pub itemFits : {K : Clock} → Config → Item K → Bool
+itemFits {K} c (message w g) = K .loadFits c w && registerFits g
 itemFits c resetReq = true
 itemFits c resetDone = true
 
 -- item k of q in range
-abbrev pub itemFitsAt : Config → List (Item vector) → ℕ → Bool
+abbrev pub itemFitsAt : {K : Clock} → Config → List (Item K) → ℕ → Bool
 itemFitsAt c q k = itemFits c (getD q k resetReq)
 
 -- no more items than it has places, each in range
-unfoldable pub linkFits : Config → ℕ → ℕ → List (Item vector) → Bool
+unfoldable pub linkFits : {K : Clock} → Config → ℕ → ℕ → List (Item K) → Bool
 linkFits c i j q = leb (length q) (places c i j) && every (length q) (itemFitsAt c q)
 
 -- ---- all of it
@@ -82,14 +70,14 @@ unfoldable pub shapeFits : {K : Clock} → State K → Bool
 shapeFits s = eqb (length (s .stations)) 8 && (eqb (length (s .links)) 8 && every 8 (rowLong s))
 
 -- the parts of a state in range
-abbrev pub stationFitsAt : Config → State vector → ℕ → Bool
+abbrev pub stationFitsAt : {K : Clock} → Config → State K → ℕ → Bool
 stationFitsAt c s i = stationFits c i (stationAt s i)
 
-abbrev pub linkFitsAt : Config → State vector → ℕ → ℕ → Bool
+abbrev pub linkFitsAt : {K : Clock} → Config → State K → ℕ → ℕ → Bool
 linkFitsAt c s i j = linkFits c i j (linkAt s i j)
 
 -- a header that setup accepts, and every part in range
-unfoldable pub wellFormed : Config → State vector → Bool
+unfoldable pub wellFormed : {K : Clock} → Config → State K → Bool
 wellFormed c s =
     (wellMade c && networkRules c)
     && (shapeFits s && (every 8 (stationFitsAt c s) && every 8 (λ (i : ℕ). every 8 (linkFitsAt c s i))))

@@ -9,11 +9,11 @@ use Rattle.codec.specs.Every.{every}
 use Rattle.clock.specs.Timestamp.{zeros}
 use Rattle.reset.specs.Reach.{limit, linked, apart, joins, first, unseen, spreadBy, everyReached}
 use Rattle.reset.specs.Config.{Config, allowancesFit, limitsFit, wellMade, zeroDiagonal, linkedBothWays, nothingAbove, sum, withinCeiling, networkRules}
-use Rattle.reset.specs.Clock.{vector}
+use Rattle.reset.specs.Clock.{vector, timestampFits}
 use Rattle.reset.specs.State.{Mode, normal, mute, standBy, Item, message, resetReq, resetDone, Station, State, blankStation, withTime, withPhase, withSent, withReqs, withDones, setStation, setLink}
 use Rattle.reset.specs.Steps.{Step, enter, send, recv, start}
 use Rattle.reset.specs.Network.{initial, run, quiescent}
-use Rattle.reset.specs.WellFormed.{timestampFits, sentFits, marksFit, stationFits, linkFits, shapeFits, wellFormed}
+use Rattle.reset.specs.WellFormed.{sentFits, marksFit, stationFits, linkFits, shapeFits, wellFormed}
 use Rattle.reset.specs.Worked.{net, allow, limitTo, link, Line, entryLine, modeLine, noLine, linesFrom, pair, listing, lone, strict, middle, skewed}
 
 -- ---- headers

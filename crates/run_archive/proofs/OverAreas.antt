@@ -3,6 +3,7 @@ use Rattle.header.proofs.Laws.{accepted-is-image}
 use Rattle.reset.specs.Config.{Config}
 use Rattle.reset.specs.Clock.{vector}
 use Rattle.reset.specs.Network.{initial}
+use Rattle.reset.proofs.ClockRange.{vector-range}
 use Rattle.reset.proofs.Formed.{initial-well-formed}
 use Rattle.rules.specs.Setup.{blockConfig}
 use Rattle.rules.proofs.Laws.{accepted-well-made}
@@ -15,6 +16,6 @@ every-chronicle block a b h ps f =
     let p = setup-accepts block a h in
     let c : Config = blockConfig block in
     let m = accepted-well-made block b (p .0) in
-    let w = initial-well-formed c m (p .1) in
+    let w = initial-well-formed vector-range c m (p .1) in
     rw (p .2, log-on-image c (initial vector c) w ps f)
     (λ few. let q = every-archive c m (p .1) ps f few in record { header-is = accepted-is-image block b (p .0); archived = q .0; tells = q .1 })

@@ -18,14 +18,15 @@ use Rattle.archive.specs.Archive.{hasLink, peerKnown, recordKnown}
 use Rattle.reset.specs.Reach.{limit, linked}
 use Rattle.reset.specs.Config.{Config, isStation, neighbours, places, wellMade}
 use Rattle.reset.proofs.ConfigLaws.{Rules, rules, shape, station-below, not-itself}
-use Rattle.reset.specs.Clock.{vector}
+use Rattle.reset.specs.Clock.{vector, ofStation, countFits, timestampFits}
 use Rattle.reset.specs.State.{Item, message, Station, State, stationAt}
 use Rattle.reset.specs.Steps.{Step, Entry, Answer, refused, entry, modeAfter, Outcome, entered, entryOf, sending, receiving, step}
 use Rattle.reset.specs.Network.{initial, log}
-use Rattle.reset.specs.WellFormed.{registerFits, ofStation, countFits, timestampFits, modeFits, phaseFits, stationFits, itemFitsAt, linkFits, wellFormed, stepFits, StepsFit}
+use Rattle.reset.specs.WellFormed.{registerFits, modeFits, phaseFits, stationFits, itemFitsAt, linkFits, wellFormed, stepFits, StepsFit}
 use Rattle.reset.proofs.Views.{station-set, station-set-link}
 use Rattle.reset.proofs.StepLaws.{of-step}
-use Rattle.reset.proofs.Formed.{Formed, formed-of, counts-small, initial-well-formed, step-well-formed}
+use Rattle.reset.proofs.ClockRange.{counts-small, vector-range}
+use Rattle.reset.proofs.Formed.{Formed, formed-of, initial-well-formed, step-well-formed}
 use Rattle.causality.specs.HappenedBefore.{Accepted, withEntry, accepted, entryAt}
 use Rattle.steps.specs.Answers.{eventRecord}
 use Rattle.run_archive.specs.Claims.{InRange, AllInRange}
@@ -164,7 +165,7 @@ module _ (c : Config) (w : wellMade c ≡ true) (u : Rules c) where
       → (k : ℕ) → k < length (accepted (log c s ps)) → InRange c (entryAt (accepted (log c s ps)) k .entry)
   run-in-range s h [] f k l = absurd (omega arith)
   run-in-range s h (p ∷ ps) f k l =
-      let w′ : wellFormed c (step c s p .after) ≡ true = step-well-formed c s h p (f .0) in
+      let w′ : wellFormed c (step c s p .after) ≡ true = step-well-formed vector-range c s h p (f .0) in
       go (step c s p .answer) (accepted (log c (step c s p .after) ps))
       (λ e q. step-in-range s (formed-of c s h) p (formed-of c _ w′) (f .0) e q)
       (run-in-range (step c s p .after) w′ ps (f .1)) k l
@@ -177,4 +178,4 @@ module _ (c : Config) (w : wellMade c ≡ true) (u : Rules c) where
       go (entry e) E x r (suc k) l = r k (omega arith)
 
 pub all-in-range : AllInRange
-all-in-range c w r ps f k l = run-in-range c w (rules c w r) (initial vector c) (initial-well-formed c w r) ps f k l
+all-in-range c w r ps f k l = run-in-range c w (rules c w r) (initial vector c) (initial-well-formed vector-range c w r) ps f k l

@@ -21,8 +21,9 @@ use Rattle.header.specs.Header.{tableAt}
 use Rattle.header.proofs.Laws.{table-at}
 use Rattle.reset.specs.Reach.{limit, linked}
 use Rattle.reset.specs.Config.{isStation, neighbours, limitAt, allowanceAt}
+use Rattle.reset.specs.Clock.{timestampFits}
 use Rattle.reset.specs.Steps.{isNormal}
-use Rattle.reset.specs.WellFormed.{timestampFits, sentFitsTo, sentFits, marksFitFrom, marksFit, stationFits}
+use Rattle.reset.specs.WellFormed.{sentFitsTo, sentFits, marksFitFrom, marksFit, stationFits}
 use Rattle.rules.specs.Setup.{blockConfig}
 use Rattle.station.specs.Image.{byteAt, markAt, modeOf, parseStation}
 use Rattle.station.specs.Test.{sentWithinAt, markBound, marksWithinAt, markFits, stationBytesFit, stationTest}

@@ -19,9 +19,9 @@ use Rattle.codec.proofs.Has.{Has, has-first, has-last, has-more, has-num, has-n
 use Rattle.reset.specs.Config.{Config, isStation, limitAt, allowanceAt, sizeFits, allowanceFits, allowancesFit, wellMade}
 use Rattle.reset.specs.Reach.{limit}
 use Rattle.reset.proofs.ConfigLaws.{shape}
-use Rattle.reset.specs.Clock.{vector}
+use Rattle.reset.specs.Clock.{vector, ofStation, countFits, timestampFits}
 use Rattle.reset.specs.State.{Mode, normal, mute, standBy, Station}
-use Rattle.reset.specs.WellFormed.{ofStation, countFits, timestampFits, modeFits, phaseFits, ownFits, sentFitsTo, sentFits, marksFit, stationFits}
+use Rattle.reset.specs.WellFormed.{modeFits, phaseFits, ownFits, sentFitsTo, sentFits, marksFit, stationFits}
 use Rattle.station.specs.Image.{markByte, sentOf, marksOf, modeByte, imageStation, byteAt, markAt, modeOf, parseStation, Ranged}
 use Rattle.station.specs.Test.{markFits, stationBytesFit, stationTest}
 

@@ -11,12 +11,13 @@ use borrow.Author.Tests.{le-leb, lt-leb}
 use Rattle.codec.proofs.EveryLaws.{both, every-at}
 use Rattle.reset.specs.Config.{Config, isStation, neighbours, limitAt, allowanceAt, places, wellMade}
 use Rattle.reset.proofs.ConfigLaws.{Rules, rules, station-below, not-itself}
-use Rattle.reset.specs.Clock.{vector}
+use Rattle.reset.specs.Clock.{vector, timestampFits}
 use Rattle.reset.specs.State.{Item, message, Station, State, stationAt, linkAt, doneSeen, sentTo, setStation, setLink}
 use Rattle.reset.specs.Steps.{enter, send, recv, start, modeAfter, refuse, guard, inBounds, bounded, doEnter, doSend, doReceive, doMark, doStart, settle, maySend, isNormal, beginReset, turn, receive, step}
 use Rattle.reset.proofs.Views.{station-set, station-set-link, link-set-row}
-use Rattle.reset.specs.WellFormed.{timestampFits, itemFits, itemFitsAt, linkFits, wellFormed}
-use Rattle.reset.proofs.Formed.{Formed, formed-of, counts-small, station-counts, formed-bounds, Bounds}
+use Rattle.reset.specs.WellFormed.{itemFits, itemFitsAt, linkFits, wellFormed}
+use Rattle.reset.proofs.ClockRange.{counts-small, vector-range}
+use Rattle.reset.proofs.Formed.{Formed, formed-of, station-counts, formed-bounds, Bounds}
 use Rattle.reset_rules.specs.Turn.{Turning, turned, started, putItems}
 use Rattle.reset_rules.proofs.TurnLaws.{set-link-set, turn-set, start-set}
 use Rattle.step_outcomes.proofs.Local.{taken-shorter, enter-bounds, receive-bounds, send-bounds, roomFor, turned-within, started-within, control-bounds, station-put-items}
@@ -26,7 +27,7 @@ module _ (c : Config) (s : State vector) (w : wellFormed c s ≡ true) where
   facts = formed-of c s w
 
   inside : Bounds c s
-  inside = formed-bounds c s w
+  inside = formed-bounds vector-range c s w
 
   pub net : Rules c
   net = let p = both (wellMade c) _ (facts .accepted) in rules c (p .0) (p .1)
@@ -154,7 +155,7 @@ module _ (c : Config) (s : State vector) (w : wellFormed c s ≡ true) where
           begins = started c i (stationAt s i)
 
           small-begins : (k : ℕ) → k < 8 → getD (begins .station .time) k 0 ≤ c .t
-          small-begins = started-within c i (stationAt s i) (station-counts c i (stationAt s i) (facts .station i (station-small i h)))
+          small-begins = started-within c i (stationAt s i) (station-counts vector-range c i (stationAt s i) (facts .station i (station-small i h)))
 
           pub start-refused : (leb (begins .station .phase) 999999 && roomFor c s i (length (begins .items))) ≡ false → step c s (start i) ≡ refuse s 9
           start-refused t =
@@ -193,8 +194,8 @@ module _ (c : Config) (s : State vector) (w : wellFormed c s ≡ true) where
           message-small k l =
               let f = facts .link j i (neighbour-small i j n) (station-small i h) in
               let p = both (leb (length (linkAt s j i)) (places c j i)) _ f in
-              let a : itemFits c (message v g) ≡ true
-              = every-at (length (message v g ∷ q)) (itemFitsAt c (message v g ∷ q)) 0 (rw e at (p .1)) (omega arith) in
+              let a : itemFits {K = vector} c (message v g) ≡ true
+              = every-at (length (message v g ∷ q)) (itemFitsAt {K = vector} c (message v g ∷ q)) 0 (rw e at (p .1)) (omega arith) in
               counts-small c (c .t) v (both (timestampFits c (c .t) v) _ a .0) k l
 
           bounded-by : inBounds c (doReceive i j v g q s .after) ≡ leb (suc (getD (stationAt s i .time) i 0)) (c .t)
@@ -224,7 +225,7 @@ module _ (c : Config) (s : State vector) (w : wellFormed c s ≡ true) where
           rows a b m = taken-shorter s j i y q e a b
 
           small-turns : (k : ℕ) → k < 8 → getD (turns .station .time) k 0 ≤ c .t
-          small-turns = turned-within c i x (λ k l. rw time (station-counts c i (stationAt s i) (facts .station i (station-small i h)) k l))
+          small-turns = turned-within c i x (λ k l. rw time (station-counts vector-range c i (stationAt s i) (facts .station i (station-small i h)) k l))
 
           leads : turn c i (setLink (setStation s i x) j i q) ≡ putItems c (setStation s₁ i (turns .station)) i (turns .items)
           leads = ap (turn c i) (set-link-set s j i i q x) ∙ turn-set c i (setLink s j i q) x

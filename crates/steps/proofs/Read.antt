@@ -17,6 +17,7 @@ use Rattle.reset.specs.Clock.{vector}
 use Rattle.reset.specs.State.{Station, stationAt, linkAt}
 use Rattle.reset.specs.Steps.{Step, Outcome, refuse, step}
 use Rattle.reset.specs.WellFormed.{wellFormed}
+use Rattle.reset.proofs.ClockRange.{vector-range}
 use Rattle.reset.proofs.Formed.{formed-of}
 use Rattle.reset.proofs.ConfigLaws.{shape, linked-small}
 use Rattle.rules.specs.Setup.{headerOf}
@@ -61,7 +62,7 @@ module _ {a : List ℕ} (k : Passed a) where
   t-small = shape (configAt a) made .ceiling
 
   pub phase-most : (i : ℕ) → i < 8 → stationAt (stateAt a) i .phase ≤ 999999
-  phase-most i l = leb-true (stationAt (stateAt a) i .phase) 999999 (formed-bounds (configAt a) (stateAt a) (k .formed) .phases i l)
+  phase-most i l = leb-true (stationAt (stateAt a) i .phase) 999999 (formed-bounds vector-range (configAt a) (stateAt a) (k .formed) .phases i l)
 
   -- the record of a station, and the count of a link, as they are read
   pub station-is : (i : ℕ) → i < 8 → {x : Station vector} → x ≡ parseStation (stationBytes a i) → stationAt (stateAt a) i ≡ x

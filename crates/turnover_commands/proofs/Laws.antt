@@ -14,6 +14,7 @@ use Rattle.reset.specs.State.{normal, mute, standBy}
 use Rattle.reset.specs.Steps.{Step, Answer, refused, entry, modeAfter}
 use Rattle.reset.specs.Network.{initial}
 use Rattle.reset.specs.WellFormed.{stepFits}
+use Rattle.reset.proofs.ClockRange.{vector-range}
 use Rattle.reset.proofs.Formed.{initial-well-formed, step-well-formed}
 use Rattle.rules.specs.Setup.{blockConfig}
 use Rattle.rules.proofs.Laws.{accepted-well-made}
@@ -39,14 +40,14 @@ use Rattle.turnover_commands.specs.Run.{Standing, silent, badLine, stepT
 -- a step leaves the image of a well-formed state
 pub step-ready : (p : Step) (a : List ℕ) → AreBytes a → test a ≡ true → stepFits p ≡ true → test (stepOn p a .area) ≡ true
 unfolding stepOn
-step-ready p a b h f = rw h (image-passes (configAt a) _ (step-well-formed (configAt a) (stateAt a) (formed-fits a b h) p f))
+step-ready p a b h f = rw h (image-passes (configAt a) _ (step-well-formed vector-range (configAt a) (stateAt a) (formed-fits a b h) p f))
 
 -- so does an accepted setup
 pub setup-ready : (block a : List ℕ) → AreBytes block → setupOn block a .answer ≡ 0 → test (setupOn block a .buffer) ≡ true
 setup-ready block a b h =
     let p = accepted block a h in
     let c = blockConfig block in
-    rw (p .2) (image-passes c (initial vector c) (initial-well-formed c (accepted-well-made block b (p .0)) (p .1)))
+    rw (p .2) (image-passes c (initial vector c) (initial-well-formed vector-range c (accepted-well-made block b (p .0)) (p .1)))
 
 pub set-up-ready : (block a : List ℕ) (run : Run) → AreBytes (settingsBlock block run .buffer) → setUp block a run .answer ≡ 0 → test (setUp block a run .buffer) ≡ true
 unfolding setUp

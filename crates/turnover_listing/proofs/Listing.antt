@@ -28,6 +28,7 @@ use Rattle.reset.specs.State.{State}
 use Rattle.reset.specs.Steps.{Step, enter, send, recv, start, stationOfStep, step}
 use Rattle.reset.specs.Network.{initial}
 use Rattle.reset.specs.WellFormed.{wellFormed, StepsFit}
+use Rattle.reset.proofs.ClockRange.{vector-range}
 use Rattle.reset.proofs.Formed.{initial-well-formed, step-well-formed}
 use Rattle.reset.specs.Worked.{lines, pair, listing}
 use Rattle.reset.specs.WorkedStates.{headers}
@@ -78,7 +79,7 @@ module _ (c : Config) (t : ℕ) (v : List ℕ) (block : List ℕ) where
   prints s w (p ∷ ps) f (l ∷ ls) y k h =
       rw (y .0, obeys k (image c s) p, step-on-image c s w p, ne-eqb k lastNumber (omega arith))
       (ap (λ (x : List ℕ). stepText (k + 1) (stationOfStep p) (c .n) (step c s p .answer) ++ x)
-      (prints (step c s p .after) (step-well-formed c s w p (f .0)) ps (f .1) ls (y .1) (k + 1) (omega arith)))
+      (prints (step c s p .after) (step-well-formed vector-range c s w p (f .0)) ps (f .1) ls (y .1) (k + 1) (omega arith)))
   prints s w [] f (l ∷ ls) y k h = absurd y
   prints s w (p ∷ ps) f [] y k h = absurd y
 
@@ -181,4 +182,4 @@ pub whole-listing : turnover listingInput ≡ listingOutput
 unfolding turnover
 whole-listing =
     rw lines-are (set-lines steps ∙ first-step
-    ∙ prints pair 7 (pair .allowances) head (initial vector pair) (initial-well-formed pair (accepted .0) (accepted .1)) listing fit steps says 0 (omega arith) ∙ computed)
+    ∙ prints pair 7 (pair .allowances) head (initial vector pair) (initial-well-formed vector-range pair (accepted .0) (accepted .1)) listing fit steps says 0 (omega arith) ∙ computed)
