@@ -7,7 +7,7 @@ use borrow.Author.Tests.{not-true, not-false}
 use Rattle.reset.specs.Steps.{Step}
 use Rattle.area.specs.Layout.{test}
 use Rattle.steps.specs.Answers.{noRecord}
-use Rattle.steps.specs.Formed.{Does}
+use Rattle.steps.specs.Does.{Does}
 use Rattle.steps.specs.declared.answer.Answer.the-variants.{Refused}
 use Rattle.steps.specs.declared.answer.Stepped.{Stepped}
 use Rattle.area_calls.specs.Calls.{stepOn}

@@ -8,7 +8,7 @@ pub fn enter(area: &mut [u8], station: u32, register: u32) -> Stepped
     ensures { λ r. ⌜ Steps (Enter station register) (now (area .entry)) r (now (area .exit)) ⌝ }
 {
     if !area::well_formed(&area[..]) {
-        return steps::answer::refused(steps::answer::ILL_FORMED_STATE);
+        return steps::answer::refused(refusals::ILL_FORMED_STATE);
     }
     steps::entry::enter(area, station, register)
 }
@@ -18,7 +18,7 @@ pub fn send(area: &mut [u8], station: u32, peer: u32, register: u32) -> Stepped
     ensures { λ r. ⌜ Steps (Send station peer register) (now (area .entry)) r (now (area .exit)) ⌝ }
 {
     if !area::well_formed(&area[..]) {
-        return steps::answer::refused(steps::answer::ILL_FORMED_STATE);
+        return steps::answer::refused(refusals::ILL_FORMED_STATE);
     }
     steps::entry::send(area, station, peer, register)
 }
@@ -28,7 +28,7 @@ pub fn recv(area: &mut [u8], station: u32, peer: u32) -> Stepped
     ensures { λ r. ⌜ Steps (Recv station peer) (now (area .entry)) r (now (area .exit)) ⌝ }
 {
     if !area::well_formed(&area[..]) {
-        return steps::answer::refused(steps::answer::ILL_FORMED_STATE);
+        return steps::answer::refused(refusals::ILL_FORMED_STATE);
     }
     steps::receive::recv(area, station, peer)
 }
@@ -38,7 +38,7 @@ pub fn start(area: &mut [u8], station: u32) -> Stepped
     ensures { λ r. ⌜ Steps (Start station) (now (area .entry)) r (now (area .exit)) ⌝ }
 {
     if !area::well_formed(&area[..]) {
-        return steps::answer::refused(steps::answer::ILL_FORMED_STATE);
+        return steps::answer::refused(refusals::ILL_FORMED_STATE);
     }
     steps::start::start(area, station)
 }

@@ -38,7 +38,7 @@ pub fn rest(area: &[u8]) -> RestAnswer
     ensures { λ r. ⌜ restView r ≡ restOn (now (area .entry)) ⌝ }
 {
     if !area::well_formed(area) {
-        return RestAnswer::Refused(2);
+        return RestAnswer::Refused(refusals::ILL_FORMED_STATE);
     }
     let h = header::load(&area[0..512]);
     if quiescent(area, h.n) {

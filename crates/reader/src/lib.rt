@@ -5,11 +5,6 @@ ghost use Rattle.archive.specs.Archive.{records, recordAt};
 ghost use Rattle.reader.specs.Reading.{testedPart, openAt, nextAt, standing, opened, advanced};
 ghost use Rattle.reader.specs.Made.{MadeOf};
 
-// Refusals: the bytes that a reader was made of are no archive; there is no record of that number.
-pub const NO_ARCHIVE: u8 = 1;
-
-pub const NO_SUCH_RECORD: u8 = 12;
-
 // Where a reader stands after it was opened or moved on: a refusal's number, and where it was; or 0 and where it is now.
 struct Place {
     at: usize,
@@ -57,13 +52,13 @@ fn open_at(archive: &[u8], number: usize, at: usize) -> Place
     if archive.len() == 0 {
         return Place {
             at,
-            refusal: NO_ARCHIVE,
+            refusal: refusals::MALFORMED,
         };
     }
     if count(archive) <= number {
         return Place {
             at,
-            refusal: NO_SUCH_RECORD,
+            refusal: refusals::NO_SUCH_RECORD,
         };
     }
     Place {
@@ -79,21 +74,21 @@ fn next_at(archive: &[u8], at: usize) -> Place
     if archive.len() == 0 {
         return Place {
             at,
-            refusal: NO_ARCHIVE,
+            refusal: refusals::MALFORMED,
         };
     }
     let n = count(archive);
     if n <= at {
         return Place {
             at,
-            refusal: NO_SUCH_RECORD,
+            refusal: refusals::NO_SUCH_RECORD,
         };
     }
     let next = at + 1;
     if n <= next {
         return Place {
             at,
-            refusal: NO_SUCH_RECORD,
+            refusal: refusals::NO_SUCH_RECORD,
         };
     }
     Place {

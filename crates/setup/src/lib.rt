@@ -64,14 +64,14 @@ pub fn setup(block: &[u8], area: &mut [u8]) -> u8
     ensures { λ r. ⌜ (r ≡ setupOn (now (block .entry)) (now (area .entry)) .answer) × (now (area .exit) ≡ setupOn (now (block .entry)) (now (area .entry)) .buffer) ⌝ }
 {
     if area.len() != area::SIZE {
-        return 11;
+        return refusals::BUFFER_LENGTH;
     }
     if !header::well_made(block) {
-        return 1;
+        return refusals::MALFORMED;
     }
     let limits = header::load_limits(block);
     if !rules::network::setup_fits(header::load(block), limits) {
-        return 3;
+        return refusals::NETWORK_RULE;
     }
     codec::put_bytes(area, 0, block);
     put_stations(area, limits);

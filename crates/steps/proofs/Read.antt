@@ -18,17 +18,16 @@ use Rattle.reset.specs.State.{Station, stationAt, linkAt}
 use Rattle.reset.specs.Steps.{Step, Outcome, refuse, step}
 use Rattle.reset.specs.WellFormed.{wellFormed}
 use Rattle.reset.proofs.ClockRange.{vector-range}
-use Rattle.reset.proofs.Formed.{formed-of}
+use Rattle.reset.proofs.Formed.{formed-of, formed-bounds}
 use Rattle.reset.proofs.ConfigLaws.{shape, linked-small}
 use Rattle.rules.specs.Setup.{headerOf}
 use Rattle.station.specs.Image.{parseStation}
-use Rattle.reset.proofs.Formed.{formed-bounds}
 use Rattle.step_outcomes.proofs.Outcome.{station-small, neighbour-small}
 use Rattle.area.specs.Layout.{image, stationBytes, linkBytes, configAt, stateAt, test}
 use Rattle.area.proofs.Formed.{tested, formed, formed-fits, station-read, formed-imaged}
 use Rattle.area_edit.proofs.PartLaws.{link-held}
 use Rattle.steps.specs.Answers.{steppedOf, noRecord}
-use Rattle.steps.specs.Formed.{Does}
+use Rattle.steps.specs.Does.{Does}
 use Rattle.steps.specs.Link.{isLinked}
 use Rattle.steps.specs.declared.answer.Answer.the-variants.{Refused}
 use Rattle.steps.specs.declared.answer.Stepped.{Stepped}
@@ -96,16 +95,16 @@ at-link-of {a} k i j h n =
 
 -- the code's test of a link is the network's
 is-linked : (c : Config) → wellMade c ≡ true → (i j : ℕ) → isLinked (c .n) (c .limits) i j ≡ (isStation c i && neighbours c i j)
-unfolding isLinked isStation neighbours linked limit
-is-linked c w i j = ap (λ (t : Bool). ltb i (c .n) && t) (go (decLt j 8))
+unfolding isLinked isStation neighbours
+is-linked c w i j = ap (λ (t : Bool). ltb i (c .n) && t) (go (linked (c .limits) i j) refl)
   where
-    go : Dec (j < 8) → (ltb j 8 && not (eqb (getD (getD (c .limits) i []) j 0) 0)) ≡ not (eqb (getD (getD (c .limits) i []) j 0) 0)
-    go (yes l) = rw (lt-ltb j 8 l)
-    go (no l) = rw (le-ltb j 8 (omega arith)) (none (not (eqb (getD (getD (c .limits) i []) j 0) 0)) refl)
+    go : (t : Bool) → linked (c .limits) i j ≡ t → (ltb j 8 && t) ≡ t
+    go true e = rw (lt-ltb j 8 (linked-small c w i j e .1))
+    go false e = none (ltb j 8)
       where
-        none : (t : Bool) → not (eqb (getD (getD (c .limits) i []) j 0) 0) ≡ t → false ≡ t
-        none false e = refl
-        none true e = absurd (l (linked-small c w i j e .1))
+        none : (b : Bool) → (b && false) ≡ false
+        none true = refl
+        none false = refl
 
 -- ---- where the header h is read
 module _ {a : List ℕ} (k : Passed a) {h : Header} (e : h ≡ headerOf (configAt a)) where

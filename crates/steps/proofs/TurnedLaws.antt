@@ -25,7 +25,7 @@ use Rattle.step_outcomes.proofs.Local.{roomFor}
 use Rattle.area.specs.Layout.{image, linkBytes, configAt, stateAt}
 use Rattle.area_edit.specs.Room.{Roomy}
 use Rattle.steps.specs.Answers.{steppedOf, modeCode}
-use Rattle.steps.specs.Formed.{Does}
+use Rattle.steps.specs.Does.{Does}
 use Rattle.steps.specs.Room.{placesOf, roomBytes, items, inBoundsAfter}
 use Rattle.steps.specs.Taking.{Settles}
 use Rattle.steps.specs.declared.answer.Stepped.{Stepped}

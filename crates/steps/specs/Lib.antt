@@ -1,5 +1,5 @@
 pub mod Answers
-pub mod Formed
+pub mod Does
 pub mod Link
 pub mod Sending
 pub mod Room

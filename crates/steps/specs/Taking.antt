@@ -14,7 +14,7 @@ use Rattle.reset_rules.specs.Slots.{controlOf}
 use Rattle.reset_rules.specs.declared.Turned.{Turned}
 use Rattle.area.specs.Layout.{image, linkBytes, configAt, stateAt, test}
 use Rattle.steps.specs.Answers.{steppedOf}
-use Rattle.steps.specs.Formed.{Does}
+use Rattle.steps.specs.Does.{Does}
 use Rattle.steps.specs.declared.answer.Stepped.{Stepped}
 
 -- the record that the rules led to is written, and its control items go on every link out of i; m is the table of limits

@@ -1,24 +1,9 @@
-// Answers of steps, and their numbers.
+// Answers of steps.
 ghost use mathlib.Core.Path.{_≡_};
 ghost use Rattle.steps.specs.Answers.{noRecord};
 use record::Record;
 use station::Mode;
 use station::Station;
-
-// Refusals.
-pub const ILL_FORMED_STATE: u8 = 2;
-
-pub const NO_SUCH_STATION: u8 = 4;
-
-pub const MODE_FORBIDS: u8 = 5;
-
-pub const USED_UP: u8 = 6;
-
-pub const EMPTY_LINK: u8 = 7;
-
-pub const NO_MORE_PHASES: u8 = 8;
-
-pub const BEYOND_BOUND: u8 = 9;
 
 // Kinds of entries, and the peer of an own entry.
 pub const OWN: u8 = 1;

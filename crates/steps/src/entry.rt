@@ -7,7 +7,7 @@ ghost use Rattle.reset.specs.Steps.{enter as Enter, send as Send, maySend};
 ghost use Rattle.station.specs.View.{modeView, stationView};
 ghost use Rattle.link.specs.Image.{mostItems};
 ghost use Rattle.area.specs.Layout.{areaSize, linkBytes, test};
-ghost use Rattle.steps.specs.Formed.{Does};
+ghost use Rattle.steps.specs.Does.{Does};
 ghost use Rattle.steps.specs.Sending.{sendRefusal, Sends};
 use crate::answer;
 use crate::answer::Stepped;
@@ -25,17 +25,17 @@ pub fn enter(area: &mut [u8], station: u32, register: u32) -> Stepped
 {
     let h = config::header_of(&area[..]);
     if config::wide(h.n) <= station {
-        return answer::refused(answer::NO_SUCH_STATION);
+        return answer::refused(refusals::NO_SUCH_STATION);
     }
     let i = station as usize;
     let s = parts::load_station(&area[..], i);
     let allowances = h.allowances;
     if allowances[i] <= s.own {
-        return answer::refused(answer::USED_UP);
+        return answer::refused(refusals::USED_UP);
     }
     let counts = s.counts;
     if h.t <= counts[i] {
-        return answer::refused(answer::BEYOND_BOUND);
+        return answer::refused(refusals::BEYOND_BOUND);
     }
     let x = reset_rules::entered(s, i);
     parts::put_station(area, i, x);
@@ -60,18 +60,18 @@ fn send_refusal(s: Station, t: u16, limit: u8, count: u8, i: usize, j: usize) ->
     let mode = s.mode;
     let dones = s.dones;
     if !may_send(mode, dones[j]) {
-        return answer::MODE_FORBIDS;
+        return refusals::MODE_FORBIDS;
     }
     let sent = s.sent;
     if limit <= sent[j] {
-        return answer::USED_UP;
+        return refusals::USED_UP;
     }
     let counts = s.counts;
     if t <= counts[i] {
-        return answer::BEYOND_BOUND;
+        return refusals::BEYOND_BOUND;
     }
     if turned::places(limit) <= config::wide(count) {
-        return answer::BEYOND_BOUND;
+        return refusals::BEYOND_BOUND;
     }
     0
 }
@@ -100,7 +100,7 @@ pub fn send(area: &mut [u8], station: u32, peer: u32, register: u32) -> Stepped
     let h = config::header_of(&area[..]);
     let limits = config::limits_of(&area[..]);
     if !config::linked(h, limits, station, peer) {
-        return answer::refused(answer::NO_SUCH_STATION);
+        return answer::refused(refusals::NO_SUCH_STATION);
     }
     let i = station as usize;
     let j = peer as usize;

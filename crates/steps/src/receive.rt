@@ -10,7 +10,7 @@ ghost use Rattle.reset.specs.Steps.{recv as Recv};
 ghost use Rattle.station.specs.View.{stationView};
 ghost use Rattle.rules.specs.Setup.{headerConfig};
 ghost use Rattle.area.specs.Layout.{configAt, stateAt, test};
-ghost use Rattle.steps.specs.Formed.{Does};
+ghost use Rattle.steps.specs.Does.{Does};
 ghost use Rattle.steps.specs.Taking.{Holds, TakesControl};
 use crate::answer;
 use crate::answer::Stepped;
@@ -30,7 +30,7 @@ fn take_control(area: &mut [u8], limits: [[u8; 8]; 8], x: Station, i: usize, j: 
     let t = reset_rules::turn(limits, i, x);
     let row = limits[i];
     if !turned::in_bounds(&area[..], row, i, t) {
-        return answer::refused(answer::BEYOND_BOUND);
+        return answer::refused(refusals::BEYOND_BOUND);
     }
     parts::take_at(area, j, i);
     turned::settle(area, limits, i, t)
@@ -43,7 +43,7 @@ fn take_message(area: &mut [u8], t: u16, s: Station, x: Item, i: usize, j: usize
 {
     let counts = s.counts;
     if t <= counts[i] {
-        return answer::refused(answer::BEYOND_BOUND);
+        return answer::refused(refusals::BEYOND_BOUND);
     }
     let theirs = x.counts;
     let y = reset_rules::receiving(s, i, theirs);
@@ -75,12 +75,12 @@ pub fn recv(area: &mut [u8], station: u32, peer: u32) -> Stepped
     let h = config::header_of(&area[..]);
     let limits = config::limits_of(&area[..]);
     if !config::linked(h, limits, station, peer) {
-        return answer::refused(answer::NO_SUCH_STATION);
+        return answer::refused(refusals::NO_SUCH_STATION);
     }
     let i = station as usize;
     let j = peer as usize;
     if parts::count_at(&area[..], j, i) == 0 {
-        return answer::refused(answer::EMPTY_LINK);
+        return answer::refused(refusals::EMPTY_LINK);
     }
     take(area, h, limits, i, j)
 }

@@ -3,7 +3,7 @@ ghost use mathlib.Core.Path.{_≡_};
 ghost use mathlib.Core.Bool.{true};
 ghost use Rattle.reset.specs.Steps.{start as Start};
 ghost use Rattle.area.specs.Layout.{test};
-ghost use Rattle.steps.specs.Formed.{Does};
+ghost use Rattle.steps.specs.Does.{Does};
 use crate::answer;
 use crate::answer::Stepped;
 use crate::config;
@@ -16,22 +16,22 @@ pub fn start(area: &mut [u8], station: u32) -> Stepped
 {
     let h = config::header_of(&area[..]);
     if config::wide(h.n) <= station {
-        return answer::refused(answer::NO_SUCH_STATION);
+        return answer::refused(refusals::NO_SUCH_STATION);
     }
     let limits = config::limits_of(&area[..]);
     let i = station as usize;
     let s = parts::load_station(&area[..], i);
     let mode = s.mode;
     if !station::is_normal(mode) {
-        return answer::refused(answer::MODE_FORBIDS);
+        return answer::refused(refusals::MODE_FORBIDS);
     }
     if clock::LAST_PHASE <= s.phase {
-        return answer::refused(answer::NO_MORE_PHASES);
+        return answer::refused(refusals::NO_MORE_PHASES);
     }
     let t = reset_rules::start(limits, i, s);
     let row = limits[i];
     if !turned::in_bounds(&area[..], row, i, t) {
-        return answer::refused(answer::BEYOND_BOUND);
+        return answer::refused(refusals::BEYOND_BOUND);
     }
     turned::settle(area, limits, i, t)
 }

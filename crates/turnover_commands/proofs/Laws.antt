@@ -23,7 +23,7 @@ use Rattle.area.proofs.Formed.{formed-fits, image-passes}
 use Rattle.area_calls.specs.Calls.{setupOn, stepOn}
 use Rattle.area_calls.proofs.Demand3.{setup-accepts as accepted}
 use Rattle.steps.specs.Answers.{steppedOf}
-use Rattle.steps.specs.Formed.{Does}
+use Rattle.steps.specs.Does.{Does}
 use Rattle.steps.specs.declared.answer.Stepped.{Stepped}
 use Rattle.network.proofs.Laws.{done}
 use Rattle.turnover_settings.specs.declared.Run.{Run}

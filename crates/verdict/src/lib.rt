@@ -15,18 +15,18 @@ pub fn compare(first: &[u8], second: &[u8]) -> Compared
     ensures { λ r. ⌜ r ≡ verdictOn (now (first .entry)) (now (second .entry)) ⌝ }
 {
     if (first.len() != 32) | (second.len() != 32) {
-        return Compared::Refused(1);
+        return Compared::Refused(refusals::MALFORMED);
     }
     if !record::well_made(first) {
-        return Compared::Refused(1);
+        return Compared::Refused(refusals::MALFORMED);
     }
     if !record::well_made(second) {
-        return Compared::Refused(1);
+        return Compared::Refused(refusals::MALFORMED);
     }
     let a = record::load(first);
     let b = record::load(second);
     if a.phase != b.phase {
-        return Compared::Refused(10);
+        return Compared::Refused(refusals::DIFFERENT_PHASES);
     }
     let v = a.counts;
     let w = b.counts;

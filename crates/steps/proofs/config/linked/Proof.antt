@@ -1,6 +1,7 @@
 use Prim.Native.Nat.{_<_}
 use native.Mathlib.Omega.{arith}
 use borrow.Author.Tests.{lt-ltb, le-ltb}
+use Rattle.reset.specs.Reach.{limit, linked}
 use Rattle.steps.specs.Link.{isLinked}
 use borrow.Author.Needs.{needs}
 use Rattle.steps.proofs.config.linked.Statement.{statement}
@@ -19,7 +20,7 @@ unfolding isLinked
 returns-2 c = rw (lt-ltb _ _ (below (c .before)), le-ltb _ 8 (c .if2 .taken))
 
 returns-3 : tie.Need-returns-3
-unfolding isLinked
+unfolding isLinked linked limit
 returns-3 c = rw (lt-ltb _ _ (below (c .before .before)), lt-ltb _ 8 (c .before .if2 .left))
 
 pub linked-spec : {M : Type 1} → statement M
