@@ -12,7 +12,8 @@ use Rattle.codec.proofs.EveryLaws.{both, every-at}
 use Rattle.header.specs.Header.{parseHeader, tableAt, wellMadeHeader}
 use Rattle.header.proofs.Laws.{well-made-length}
 use Rattle.entries.specs.Entries.{countOf, storedNumber, wellMadeEntries}
-use Rattle.archive.specs.Archive.{blockOf, blocks, allKnown, blockFits, blocksFit, archiveTest}
+use Rattle.block_test.specs.BlockTest.{allKnown, blockFits}
+use Rattle.archive.specs.Archive.{blockOf, blocks, blocksFit, archiveTest}
 
 -- fewer than 512 bytes have no header
 pub short-refused : (a : List ℕ) → length a < 512 → wellMadeHeader (take 512 a) ≡ false

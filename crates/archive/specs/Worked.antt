@@ -7,7 +7,7 @@ use mathlib.Core.Bool.{true, false}
 use lib.ListN.{set, replicate}
 use Rattle.codec.specs.Rows.{rows, upto}
 use Rattle.codec.specs.Every.{every, total, blank}
-use Rattle.codec.specs.Check.{weighted, checkOf, sealed, sealOf}
+use Rattle.checksum.specs.Check.{weighted, checkOf, sealed, sealOf}
 use Rattle.clock.specs.Range.{countsFit}
 use Rattle.record.specs.Record.{peerFits, recordFits, imageRecord, wellMadeRecord}
 use Rattle.record.specs.declared.Record.{Record}
@@ -15,7 +15,8 @@ use Rattle.header.specs.Header.{rowInRange, limitsInRange, headerFits, tableAt,
 use Rattle.header.specs.declared.Header.{Header}
 use Rattle.entries.specs.Starts.{recordStarts, recordStart, recordsEnd}
 use Rattle.entries.specs.Entries.{recordOf, frontFits, bodyFits, wellMadeEntries, entriesBody, imageEntries}
-use Rattle.archive.specs.Archive.{hasLink, peerKnown, recordKnown, blockOf, blocks, allKnown, blockFits, blocksFit, archiveTest}
+use Rattle.block_test.specs.BlockTest.{hasLink, peerKnown, recordKnown, allKnown, blockFits}
+use Rattle.archive.specs.Archive.{blockOf, blocks, blocksFit, archiveTest}
 
 -- ---- headers
 -- n stations and a ceiling of 7

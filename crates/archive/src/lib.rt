@@ -1,203 +1,16 @@
 // A whole archive: its test, its records, and a found record as a part of the caller's own bytes.
 ghost use mathlib.Core.Path.{_≡_};
-ghost use mathlib.Core.Bool.{true, cond};
-ghost use Prim.Native.Nat.{ℕ, min, _≤_, _<_, _+_, _*_, _/_};
-ghost use lib.Dec.{eqb, leb};
-ghost use lib.ListN.{length, getD};
-ghost use Rattle.codec.specs.Every.{every};
+ghost use mathlib.Core.Bool.{true};
+ghost use Prim.Native.Nat.{_≤_, _+_, _*_};
+ghost use lib.ListN.{length};
 ghost use Rattle.header.specs.Header.{parseHeader, tableAt};
-ghost use Rattle.entries.specs.Entries.{storedNumber, recordOf};
-ghost use Rattle.archive.specs.Archive.{blockFits, blocksFit, archiveTest, records as recordsOf, recordAt, countRecords, findRecord, foundRecord};
-ghost use Rattle.archive.specs.Sweep.{countAt, countsTest, Fronts, placeOf, frontTest, phaseTest, recordTest, Looked};
+ghost use Rattle.block_test.specs.Sweep.{Fronts};
+ghost use Rattle.archive.specs.Archive.{blocksFit, archiveTest, records as recordsOf, recordAt, countRecords, findRecord, foundRecord};
 
 // How many there are, or a refusal's number.
 pub enum Counted {
     Count(usize),
     Refused(u8),
-}
-
-fn wide(x: u8) -> usize
-    ensures { λ r. ⌜ (r ≡ x) × (r < 256) ⌝ }
-{
-    x as usize
-}
-
-// By how much a count is above m.
-fn above(x: u16, m: u16) -> u16
-    ensures { λ r. ⌜ eqb r 0 ≡ leb x m ⌝ }
-{
-    if m < x { x - m } else { 0 }
-}
-
-// The counts of station i in the fifteen places of a block are at most m. Joined by `|`, which takes one step less for each
-// than comparing.
-fn column_fits(block: &[u8], i: usize, m: u16) -> bool
-    requires { ⌜ (length (now block) ≡ 512) × (i < 8) ⌝ }
-    ensures { λ r. ⌜ r ≡ every 15 (λ (k : ℕ). leb (countAt (now (block .entry)) i k) m) ⌝ }
-{
-    let mut all: u16 = 0;
-    let mut k = 0;
-    while k < 15 {
-        all = all | above(codec::get16(block, 32 + k * 32 + 2 * i), m);
-        k += 1;
-    }
-    all == 0
-}
-
-// Every count in the fifteen places of a block is at most t, and 0 for stations n and above. The stations are vectorised.
-fn counts_fit(block: &[u8], n: u8, t: u16) -> bool
-    requires { ⌜ length (now block) ≡ 512 ⌝ }
-    ensures { λ r. ⌜ r ≡ countsTest n t (now (block .entry)) ⌝ }
-{
-    let mut ok = true;
-    let mut j: u8 = 0;
-    while j < 8 {
-        let i = j as usize;
-        ok = ok & column_fits(block, i, clock::ceiling(j, n, t));
-        j += 1;
-    }
-    ok
-}
-
-fn front(stands: bool, x: usize, other: u32) -> u32
-    requires { ⌜ x < 4294967296 ⌝ }
-    ensures { λ r. ⌜ r ≡ cond stands x other ⌝ }
-{
-    if stands { x as u32 } else { other }
-}
-
-// The first four bytes of the records that a header allows, as numbers, each in the place where it is looked up; elsewhere
-// a number that is looked up in another place. A station that the header lacks has no count, which shuts its records out.
-fn fronts(head: &[u8], n: u8) -> [u32; 256]
-    requires { ⌜ length (now head) ≡ 512 ⌝ }
-    ensures { λ r. ⌜ Fronts n (tableAt 8 (now (head .entry)) 32) r ⌝ }
-{
-    let top = wide(n);
-    let mut r: [u32; 256] = [458752; 256];
-    let mut p = 0;
-    while p < 8 {
-        r[56 + p] = (16711681 + 256 * p) as u32;
-        let mut s = 0;
-        while s < 8 {
-            let j = p * 8 + s;
-            let both = (p < top) & (s != p);
-            let x = 256 * s + 65536 * p;
-            r[128 + j] = front(both & (0 < head[32 + (s * 8 + p)]), 2 + x, 458752);
-            r[192 + j] = front(both & (0 < head[32 + j]), 3 + x, 458752);
-            s += 1;
-        }
-        p += 1;
-    }
-    r
-}
-
-// Where a record's first four bytes are looked up.
-fn place_of(x: u32) -> usize
-    ensures { λ r. ⌜ (r ≡ placeOf x) × (r < 256) ⌝ }
-{
-    let y = x as u64;
-    (y * 1073809408 / 16777216 % 256) as usize
-}
-
-// Where a record's first four bytes differ from what stands in their place: 0 where they are right.
-fn differ(known: &[u32; 256], x: u32) -> u32
-    ensures { λ r. ⌜ eqb r 0 ≡ eqb (getD (now (known .entry)) (placeOf x) 0) x ⌝ }
-{
-    known[place_of(x)] ^ x
-}
-
-fn smaller(x: u16, y: u16) -> u16
-    ensures { λ r. ⌜ r ≡ min x y ⌝ }
-{
-    if x < y { x } else { y }
-}
-
-// What is seen of a block's records, gathered with no branch: spare bytes and phases joined by `|`.
-struct Seen {
-    right: bool,
-    spare: u32,
-    phases: u32,
-}
-
-// The first `count` records of a block. Of their stations' own counts the least is kept.
-fn look(known: &[u32; 256], block: &[u8], count: usize) -> Seen
-    requires { ⌜ (length (now block) ≡ 512) × (count ≤ 15) ⌝ }
-    ensures { λ r. ⌜ Looked (now (known .entry)) (now (block .entry)) count (r .right) (r .spare) (r .phases) ⌝ }
-{
-    let mut wrong: u32 = 0;
-    let mut least: u16 = 1;
-    let mut spare: u32 = 0;
-    let mut phases: u32 = 0;
-    let mut k = 0;
-    while k < count {
-        let o = entries::start_of(k);
-        let e = o + 32;
-        let part = &block[o..e];
-        let x = codec::get32(part, 0);
-        wrong = wrong | differ(known, x);
-        least = smaller(codec::get16(part, 16 + 2 * (place_of(x) % 8)), least);
-        spare = spare | codec::get32(part, 12);
-        phases = phases | codec::get32(part, 4);
-        k += 1;
-    }
-    Seen {
-        right: (wrong == 0) & (1 <= least),
-        spare,
-        phases,
-    }
-}
-
-// The phases of the first `count` records, one by one.
-fn phases_fit(block: &[u8], count: usize) -> bool
-    requires { ⌜ (length (now block) ≡ 512) × (count ≤ 15) ⌝ }
-    ensures { λ r. ⌜ r ≡ every count (λ (k : ℕ). phaseTest (recordOf (now (block .entry)) k)) ⌝ }
-{
-    let mut ok = true;
-    let mut k = 0;
-    while k < count {
-        let o = entries::start_of(k);
-        let e = o + 32;
-        ok = ok & (codec::get32(&block[o..e], 4) <= clock::LAST_PHASE);
-        k += 1;
-    }
-    ok
-}
-
-// The first `count` records of a block are well made and name only what the header has, but for their counts. No phase is
-// above all of them joined, so that they are looked at one by one only where that is too high.
-fn records_fit(known: &[u32; 256], block: &[u8], count: usize) -> bool
-    requires { ⌜ (length (now block) ≡ 512) × (count ≤ 15) ⌝ }
-    ensures { λ r. ⌜ r ≡ every count (λ (k : ℕ). recordTest (now (known .entry)) (recordOf (now (block .entry)) k)) ⌝ }
-{
-    let seen = look(known, block, count);
-    let fit = seen.right & (seen.spare == 0);
-    if seen.phases <= clock::LAST_PHASE {
-        return fit;
-    }
-    fit & phases_fit(block, count)
-}
-
-fn number_of(block: &[u8]) -> usize
-    requires { ⌜ length (now block) ≡ 512 ⌝ }
-    ensures { λ r. ⌜ r ≡ storedNumber (now (block .entry)) ⌝ }
-{
-    codec::get32(block, 4) as usize
-}
-
-// An entries block in its place.
-fn block_fits(head: &[u8], known: &[u32; 256], number: usize, last: bool, block: &[u8]) -> bool
-    requires { ⌜ (length (now head) ≡ 512) × (parseHeader (now head) .n ≤ 8) × Fronts (parseHeader (now head) .n) (tableAt 8 (now head) 32) (now known) × (length (now block) ≡ 512) ⌝ }
-    ensures { λ r. ⌜ r ≡ blockFits (parseHeader (now (head .entry))) (tableAt 8 (now (head .entry)) 32) number last (now (block .entry)) ⌝ }
-{
-    if !entries::front_fits(block) {
-        return false;
-    }
-    let count = entries::count_of(block);
-    (number_of(block) == number)
-        & ((last | (count == 15))
-            & (entries::tail_fits(block, count)
-                & (counts_fit(block, head[1], codec::get16(head, 2))
-                    & records_fit(known, block, count))))
 }
 
 // The n entries blocks behind the header fit.
@@ -210,7 +23,7 @@ fn blocks_fit(a: &[u8], head: &[u8], known: &[u32; 256], n: usize) -> bool
         let next = b + 1;
         let o = next * 512;
         let e = o + 512;
-        if !block_fits(head, known, next, next == n, &a[o..e]) {
+        if !block_test::block_fits(head, known, next, next == n, &a[o..e]) {
             return false;
         }
         b = next;
@@ -237,7 +50,7 @@ pub fn test(a: &[u8]) -> bool
     if n == 0 {
         return true;
     }
-    let known = fronts(head, head[1]);
+    let known = block_test::fronts(head, head[1]);
     blocks_fit(a, head, &known, n)
 }
 

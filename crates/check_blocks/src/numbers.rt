@@ -121,7 +121,7 @@ fn mixed(a: u8, b: u8) {
         b"check of bytes by ",
         check_vectors::wide(a),
         check_vectors::wide(b),
-        check_vectors::wide16(codec::check(&d)),
+        check_vectors::wide16(checksum::check(&d)),
     );
 }
 
@@ -129,7 +129,7 @@ fn mixed(a: u8, b: u8) {
 fn mixed_sealed(a: u8, b: u8) {
     let mut d = [0u8; 512];
     fill(&mut d, a, b);
-    codec::seal(&mut d);
+    checksum::seal(&mut d);
     check_vectors::bytes(
         b"sealed ",
         check_vectors::wide(a),
@@ -145,7 +145,7 @@ fn pair(p: usize, x: u8, q: usize, y: u8) -> u64
     let mut d = [0u8; 512];
     check_vectors::poke(&mut d, p, x);
     check_vectors::poke(&mut d, q, y);
-    check_vectors::wide16(codec::check(&d))
+    check_vectors::wide16(checksum::check(&d))
 }
 
 // The checks of the blocks with one byte x at places 0 to 509, added up.
@@ -187,7 +187,7 @@ fn seals(p: usize, x: u16) -> bool {
     let mut d = [0u8; 512];
     check_vectors::poke(&mut d, p, 1);
     codec::put16(&mut d, 510, x);
-    codec::sealed(&d)
+    checksum::sealed(&d)
 }
 
 // How many numbers do.

@@ -42,7 +42,7 @@ pub fn lift(d: &mut [u8], at: usize, by: u8) {
 
 pub fn seal(d: &mut [u8]) {
     if d.len() == 512 {
-        codec::seal(d);
+        checksum::seal(d);
     }
 }
 

@@ -3,6 +3,4 @@ pub mod Splice
 pub mod Rows
 pub mod Every
 pub mod Put
-pub mod Check
-pub mod Columns
 pub mod Written

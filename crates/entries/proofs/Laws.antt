@@ -11,14 +11,14 @@ use lib.Seq.{drop-drop, take-add}
 use borrow.Author.Tests.{eqb-true, eqb-false, eq-eqb, ne-eqb, leb-true, le-leb}
 use Rattle.codec.specs.Num.{AreBytes, bytesOf, numAt}
 use Rattle.codec.specs.Every.{every, total, allZero, blank}
-use Rattle.codec.specs.Check.{sealed, sealOf}
+use Rattle.checksum.specs.Check.{sealed, sealOf}
 use Rattle.codec.proofs.BlankLaws.{blank-length}
 use Rattle.codec.proofs.EveryLaws.{total-append, both, every-at, every-same, zero-part, zeros-blank}
 use Rattle.codec.proofs.SpliceLaws.{part-part}
 use Rattle.codec.proofs.Fronts.{front-part, front-num, front-byte, front-none}
 use Rattle.codec.proofs.Has.{Has, has-last, has-more, has-num, has-part}
-use Rattle.codec.proofs.CheckLaws.{seal-length, seal-seals, sealed-is}
-use Rattle.codec.proofs.OneByte.{one-byte}
+use Rattle.checksum.proofs.CheckLaws.{seal-length, seal-seals, sealed-is}
+use Rattle.checksum.proofs.OneByte.{one-byte}
 use Rattle.record.specs.Record.{wellMadeRecord}
 use Rattle.entries.specs.Starts.{recordStarts, recordStart, recordsEnd}
 use Rattle.entries.specs.Entries.{countOf, storedNumber, recordOf, frontFits, bodyFits, wellMadeEntries, entriesBody, imageEntries, recordsFit, entriesFit}
@@ -46,6 +46,11 @@ start-is k h = eqb-true _ _ (every-at 15 (λ (k : ℕ). eqb (recordStart k) (16 
 pub end-is : (count : ℕ) → 1 ≤ count → count ≤ 15 → recordsEnd count ≡ 16 + count * 32
 unfolding recordsEnd
 end-is count h g = omega (arith, start-is (count - 1) (omega arith))
+
+-- the part of a block that is lent for a record
+pub part-record : (l : List ℕ) (k o : ℕ) → o ≡ recordStart k → take (o + 32 - o) (drop o l) ≡ recordOf l k
+unfolding recordOf
+part-record l k o e = let f : o + 32 - o ≡ 32 = omega arith in rw (f, e)
 
 -- ---- zeros behind the records
 pub zero-sum : (a b : ℕ) → eqb (a + b) 0 ≡ (eqb a 0 && eqb b 0)

@@ -7,7 +7,7 @@ use lib.ListN.{length, getD, take, drop}
 use Rattle.codec.specs.Num.{bytesOf, numAt}
 use Rattle.codec.specs.Splice.{splice}
 use Rattle.codec.specs.Every.{every, allZero, blank}
-use Rattle.codec.specs.Check.{sealed, sealOf}
+use Rattle.checksum.specs.Check.{sealed, sealOf}
 use Rattle.codec.specs.Written.{Written, refused, wrote}
 use Rattle.record.specs.Record.{wellMadeRecord}
 use Rattle.entries.specs.Starts.{recordStart, recordsEnd}

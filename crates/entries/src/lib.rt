@@ -42,7 +42,7 @@ pub fn front_fits(s: &[u8]) -> bool
     requires { ⌜ length (now s) ≡ 512 ⌝ }
     ensures { λ r. ⌜ r ≡ frontFits (now (s .entry)) ⌝ }
 {
-    codec::sealed(s)
+    checksum::sealed(s)
         & ((s[0] == 2)
             & ((1 <= s[1])
                 & ((s[1] <= 15)
@@ -112,7 +112,7 @@ fn store(d: &mut [u8], number: u32, rs: &[u8])
     codec::put_zeros(d, 8, 8);
     codec::put_bytes(d, 16, rs);
     codec::put_zeros(d, end, 494 - rs.len());
-    codec::seal(d);
+    checksum::seal(d);
 }
 
 fn entries_fit(number: u32, rs: &[u8]) -> bool

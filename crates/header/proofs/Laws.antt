@@ -12,7 +12,7 @@ use lib.Seq.{getD-take, getD-drop, ext-getD}
 use borrow.Author.Tests.{eqb-true, eq-eqb, leb-true}
 use Rattle.codec.specs.Num.{AreBytes, bytesOf, numsOf}
 use Rattle.codec.specs.Every.{every, allZero, blank}
-use Rattle.codec.specs.Check.{sealed, sealOf}
+use Rattle.checksum.specs.Check.{sealed, sealOf}
 use Rattle.codec.proofs.NumLaws.{nums-length, Below}
 use Rattle.codec.proofs.BlankLaws.{blank-length}
 use Rattle.codec.proofs.EveryLaws.{both, every-same, zero-part, zeros-blank}
@@ -20,8 +20,8 @@ use Rattle.codec.proofs.FlagLaws.{every-rows}
 use Rattle.codec.proofs.Stride.{upto-length, upto-at, upto-is}
 use Rattle.codec.proofs.Fronts.{front-part, front-nums, front-num, front-byte, front-none}
 use Rattle.codec.proofs.Has.{Has, has-last, has-more, has-num, has-nums, has-part, has-at}
-use Rattle.codec.proofs.OneByte.{one-byte}
-use Rattle.codec.proofs.CheckLaws.{seal-length, seal-seals, sealed-is}
+use Rattle.checksum.proofs.OneByte.{one-byte}
+use Rattle.checksum.proofs.CheckLaws.{seal-length, seal-seals, sealed-is}
 use Rattle.header.specs.Header.{rowInRange, limitsInRange, headerFits, bytesAt, tableAt, tableOf, parseHeader, headerBody, imageHeader, wellMadeHeader}
 use Rattle.header.specs.declared.Header.{Header}
 

@@ -8,7 +8,7 @@ use Rattle.codec.specs.Num.{bytesOf, numAt, numsOf, numsAt}
 use Rattle.codec.specs.Splice.{splice}
 use Rattle.codec.specs.Rows.{upto}
 use Rattle.codec.specs.Every.{every, allZero, blank}
-use Rattle.codec.specs.Check.{sealed, sealOf}
+use Rattle.checksum.specs.Check.{sealed, sealOf}
 use Rattle.codec.specs.Written.{Written, refused, wrote}
 use Rattle.header.specs.declared.Header.{Header}
 use Rattle.header.specs.declared.HeaderRead.{HeaderRead}

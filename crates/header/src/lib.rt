@@ -157,7 +157,7 @@ pub fn well_made(s: &[u8]) -> bool
     if !rest_blank(s) {
         return false;
     }
-    codec::zeros(&s[4..16]) & codec::sealed_front(s)
+    codec::zeros(&s[4..16]) & checksum::sealed_front(s)
 }
 
 fn store_limits(d: &mut [u8], limits: [[u8; 8]; 8])
@@ -195,7 +195,7 @@ fn store(d: &mut [u8], h: Header, limits: [[u8; 8]; 8])
     codec::put_row(d, 16, allowances);
     store_limits(d, limits);
     codec::put_zeros(d, 96, 414);
-    codec::seal(d);
+    checksum::seal(d);
 }
 
 // Writes a header block into the first 512 bytes of a buffer: 1, 11, or 0 when it is written.

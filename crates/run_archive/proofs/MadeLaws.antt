@@ -20,7 +20,8 @@ use Rattle.header.specs.Header.{imageHeader, parseHeader, tableAt, wellMadeHead
 use Rattle.header.proofs.Laws as header-laws
 use Rattle.entries.specs.Entries.{countOf, storedNumber, recordOf as placeOf, recordsFit, entriesFit, wellMadeEntries, writeEntries}
 use Rattle.entries.proofs.Laws as entries-laws
-use Rattle.archive.specs.Archive.{recordKnown, blockOf, blocks, allKnown, blockFits, blocksFit, archiveTest, records, recordAt}
+use Rattle.block_test.specs.BlockTest.{recordKnown, allKnown, blockFits}
+use Rattle.archive.specs.Archive.{blockOf, blocks, blocksFit, archiveTest, records, recordAt}
 use Rattle.archive.proofs.Tested.{record-place}
 use Rattle.reset.specs.Config.{Config, wellMade}
 use Rattle.rules.specs.Setup.{headerOf}

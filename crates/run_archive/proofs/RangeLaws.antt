@@ -14,7 +14,7 @@ use Rattle.codec.proofs.PutLaws.{put-same}
 use Rattle.clock.specs.Timestamp.{merged}
 use Rattle.clock.specs.Range.{ceilingOf, countsFit as clockFits}
 use Rattle.record.specs.Record.{peerFits, recordFits}
-use Rattle.archive.specs.Archive.{hasLink, peerKnown, recordKnown}
+use Rattle.block_test.specs.BlockTest.{hasLink, peerKnown, recordKnown}
 use Rattle.reset.specs.Reach.{limit, linked}
 use Rattle.reset.specs.Config.{Config, isStation, neighbours, places, wellMade}
 use Rattle.reset.proofs.ConfigLaws.{Rules, rules, shape, station-below, not-itself}

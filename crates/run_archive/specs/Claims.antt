@@ -13,7 +13,8 @@ use Rattle.record.specs.Record.{recordFits}
 use Rattle.record.proofs.Laws.{Typed}
 use Rattle.header.specs.Header.{imageHeader, writeHeader}
 use Rattle.entries.specs.Entries.{writeEntries}
-use Rattle.archive.specs.Archive.{recordKnown, archiveTest, records, recordAt}
+use Rattle.block_test.specs.BlockTest.{recordKnown}
+use Rattle.archive.specs.Archive.{archiveTest, records, recordAt}
 use Rattle.verdict.specs.declared.Compared.the-variants.{Ordered}
 use Rattle.concurrent.specs.Unordered.{isUnordered, Lists}
 use Rattle.concurrent.specs.ByNumber.{orderOf}

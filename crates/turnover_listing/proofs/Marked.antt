@@ -3,7 +3,7 @@ use Prim.Native.Nat.{ℕ}
 use mathlib.Core.Path.{_≡_, refl, ap, _∙_}
 use mathlib.Core.List.{List}
 use Rattle.codec.specs.Every.{every}
-use Rattle.codec.specs.Check.{weighted, checkOf}
+use Rattle.checksum.specs.Check.{weighted, checkOf}
 use Rattle.clock.specs.Order.{sameCounts, noGreater, verdictOf}
 use Rattle.turnover_input.specs.Lines.{splitFrom}
 use Rattle.turnover_listing.specs.Listing.{listingOutput}

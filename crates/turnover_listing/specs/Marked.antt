@@ -4,7 +4,7 @@ use Prim.Native.Nat.{ℕ}
 use mathlib.Core.Path.{_≡_}
 use mathlib.Core.List.{List, [], _∷_, _++_}
 use lib.ListN.{getD, replicate}
-use Rattle.codec.specs.Check.{checkOf}
+use Rattle.checksum.specs.Check.{checkOf}
 use Rattle.clock.specs.Order.{verdictOf}
 use Rattle.clock.specs.declared.Verdict.the-variants.{Before, Unordered}
 use Rattle.decimal.specs.Ascii.{ascii}

@@ -9,7 +9,8 @@ use lib.ListN.{length-take, length-drop}
 use Rattle.codec.specs.Every.{every}
 use Rattle.codec.proofs.EveryLaws.{every-none, every-more, every-fails}
 use Rattle.header.specs.Header.{parseHeader, tableAt}
-use Rattle.archive.specs.Archive.{blockOf, blockFits, blocksFit}
+use Rattle.block_test.specs.BlockTest.{blockFits}
+use Rattle.archive.specs.Archive.{blockOf, blocksFit}
 use Rattle.archive.proofs.blocks_fit.Statement.{statement}
 use Rattle.archive.proofs.blocks_fit.Tie as tie
 

@@ -7,7 +7,7 @@ use lib.ListN.{length, take}
 use lib.Seq.{take-at}
 use Rattle.codec.specs.Num.{bytesOf}
 use Rattle.codec.specs.Every.{blank}
-use Rattle.codec.specs.Check.{sealOf}
+use Rattle.checksum.specs.Check.{sealOf}
 use Rattle.codec.proofs.BlankLaws.{blank-length}
 use Rattle.codec.proofs.SpliceLaws.{first, next}
 use Rattle.entries.specs.Entries.{entriesBody, imageEntries}

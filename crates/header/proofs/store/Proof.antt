@@ -8,7 +8,7 @@ use lib.Seq.{take-at}
 use borrow.Author.Needs.{needs}
 use Rattle.codec.specs.Num.{bytesOf, numsOf}
 use Rattle.codec.specs.Every.{blank}
-use Rattle.codec.specs.Check.{sealOf}
+use Rattle.checksum.specs.Check.{sealOf}
 use Rattle.codec.proofs.NumLaws.{nums-length}
 use Rattle.codec.proofs.BlankLaws.{blank-length}
 use Rattle.codec.proofs.SpliceLaws.{first, next}

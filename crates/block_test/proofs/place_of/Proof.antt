@@ -1,0 +1,13 @@
+use Rattle.block_test.specs.Sweep.{placeOf}
+use borrow.Author.Needs.{needs}
+use native.Mathlib.Omega.{arith}
+use mathlib.Core.Path.{refl}
+use Rattle.block_test.proofs.place_of.Statement.{statement}
+use Rattle.block_test.proofs.place_of.Tie as tie
+
+returns : tie.Need-returns
+unfolding placeOf
+returns c = (refl, omega arith)
+
+pub place-of-spec : {M : Type 1} → statement M
+place-of-spec = tie.close (tie.spec (λ c. search needs) returns)

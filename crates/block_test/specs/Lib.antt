@@ -1,0 +1,2 @@
+pub mod BlockTest
+pub mod Sweep
