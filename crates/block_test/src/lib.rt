@@ -8,7 +8,7 @@ ghost use Rattle.codec.specs.Every.{every};
 ghost use Rattle.header.specs.Header.{parseHeader, tableAt};
 ghost use Rattle.entries.specs.Entries.{storedNumber, recordOf};
 ghost use Rattle.block_test.specs.BlockTest.{blockFits};
-ghost use Rattle.block_test.specs.Sweep.{countAt, countsTest, Fronts, placeOf, frontTest, phaseTest, recordTest, Looked};
+ghost use Rattle.block_test.specs.Sweep.{countAt, countsTest, limitOf, Row, Fronts, placeOf, frontTest, phaseTest, recordTest, Looked};
 
 fn wide(x: u8) -> usize
     ensures { λ r. ⌜ (r ≡ x) × (r < 256) ⌝ }
@@ -60,6 +60,31 @@ fn front(stands: bool, x: usize, other: u32) -> u32
     if stands { x as u32 } else { other }
 }
 
+// The limit of the link that a sent (2) or received (3) record of station s and peer p names.
+fn limit(head: &[u8], kind: usize, s: usize, p: usize) -> u8
+    requires { ⌜ (length (now head) ≡ 512) × (s < 8) × (p < 8) ⌝ }
+    ensures { λ r. ⌜ r ≡ limitOf (tableAt 8 (now (head .entry)) 32) kind s p ⌝ }
+{
+    if kind == 2 {
+        return head[32 + (s * 8 + p)];
+    }
+    head[32 + (p * 8 + s)]
+}
+
+// The records of a kind with peer p, one for each station. A row at a time, which the compiler vectorises.
+fn fill(r: &mut [u32; 256], head: &[u8], top: usize, kind: usize, p: usize)
+    requires { ⌜ (length (now r) ≡ 256) × (length (now head) ≡ 512) × (2 ≤ kind) × (kind ≤ 3) × (p < 8) ⌝ }
+    ensures { λ _. ⌜ Row top (tableAt 8 (now (head .entry)) 32) (kind * 8 + p) 8 (now (r .entry)) (now (r .exit)) ⌝ }
+{
+    let q = kind * 8 + p;
+    let mut s = 0;
+    while s < 8 {
+        let stands = (p < top) & (s != p) & (0 < limit(head, kind, s, p));
+        r[q * 8 + s] = front(stands, kind + (256 * s + 65536 * p), 458752);
+        s += 1;
+    }
+}
+
 // The first four bytes of the records that a header allows, as numbers, each in the place where it is looked up; elsewhere
 // a number that is looked up in another place. A station that the header lacks has no count, which shuts its records out.
 pub fn fronts(head: &[u8], n: u8) -> [u32; 256]
@@ -71,15 +96,8 @@ pub fn fronts(head: &[u8], n: u8) -> [u32; 256]
     let mut p = 0;
     while p < 8 {
         r[56 + p] = (16711681 + 256 * p) as u32;
-        let mut s = 0;
-        while s < 8 {
-            let j = p * 8 + s;
-            let both = (p < top) & (s != p);
-            let x = 256 * s + 65536 * p;
-            r[128 + j] = front(both & (0 < head[32 + (s * 8 + p)]), 2 + x, 458752);
-            r[192 + j] = front(both & (0 < head[32 + j]), 3 + x, 458752);
-            s += 1;
-        }
+        fill(&mut r, head, top, 2, p);
+        fill(&mut r, head, top, 3, p);
         p += 1;
     }
     r
