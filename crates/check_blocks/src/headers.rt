@@ -15,37 +15,6 @@ const LIMITS: [[u8; 8]; 8] = [
     [1, 0, 0, 0, 0, 0, 0, 32],
 ];
 
-// Places and values: the kind of block, n, t, allowances and limits at their ends and past them, the spare bytes' ends.
-const CASES: [[usize; 2]; 27] = [
-    [0, 0],
-    [0, 1],
-    [0, 2],
-    [0, 255],
-    [1, 0],
-    [1, 1],
-    [1, 8],
-    [1, 9],
-    [1, 255],
-    [2, 0],
-    [2, 255],
-    [3, 255],
-    [4, 1],
-    [7, 1],
-    [8, 1],
-    [15, 1],
-    [16, 255],
-    [31, 255],
-    [32, 32],
-    [32, 33],
-    [32, 255],
-    [95, 0],
-    [95, 32],
-    [95, 33],
-    [96, 1],
-    [509, 1],
-    [509, 255],
-];
-
 fn flat(n: u8, t: u16, a: u16) -> Header {
     Header {
         n,
@@ -202,9 +171,16 @@ fn limit_bytes(good: &[u8], x: u8) {
     );
 }
 
+// Places and values: the kind of block, n, t, allowances and limits at their ends and past them, the spare bytes' ends.
 fn cases(good: &[u8]) {
-    let pairs = CASES;
-    check_vectors::cases(1, b"header with byte ", good, &pairs);
+    check_vectors::cases(
+        1,
+        b"header with byte ",
+        good,
+        b"0 0,0 1,0 2,0 255,1 0,1 1,1 8,1 9,1 255,2 0,2 255,3 255,4 1,7 1,8 1,\
+          15 1,16 255,31 255,32 32,32 33,32 255,95 0,95 32,95 33,96 1,509 1,\
+          509 255",
+    );
     check_vectors::cuts(1, b"header cut to ", good);
 }
 

@@ -3,7 +3,7 @@ use crate::show;
 use crate::tables;
 
 // What a step of station 200 answers on the area with one byte raised: 2 where that is no image, else 4. The byte is lowered again.
-fn flipped(area: &mut [u8], at: usize, by: u8) -> u8 {
+fn flipped(area: &mut [u8; 65536], at: usize, by: u8) -> u8 {
     check_vectors::lift(area, at, by);
     let r = network::enter(area, 200, 0);
     check_vectors::lift(area, at, std::num::wrapping_sub_u8(0, by));
@@ -11,7 +11,7 @@ fn flipped(area: &mut [u8], at: usize, by: u8) -> u8 {
 }
 
 // How many of the bytes, each raised alone, have the answer k.
-fn answered(area: &mut [u8], by: u8, k: u8) -> u64 {
+fn answered(area: &mut [u8; 65536], by: u8, k: u8) -> u64 {
     let mut n: u64 = 0;
     let mut p = 0;
     while p < 65536 {
@@ -21,26 +21,26 @@ fn answered(area: &mut [u8], by: u8, k: u8) -> u64 {
     n
 }
 
-fn counted(area: &mut [u8], by: u8) {
+fn counted(area: &mut [u8; 65536], by: u8) {
     check_vectors::put(b"raised by ", check_vectors::wide(by));
     check_vectors::put(b", no image: ", answered(area, by, 2));
     check_vectors::say(b", another state: ", answered(area, by, 4));
 }
 
-fn image(name: &[u8], steps: &[[u32; 4]]) {
+fn image(name: &[u8], steps: &[u8]) {
     let mut area = crate::blank();
     io::write_all(1, name);
     let h = crate::pair();
-    crate::fresh(&mut area, h, tables::PAIR);
+    crate::fresh(&mut area, h, crate::pair_limits());
     crate::drive(&mut area, 2, steps);
     counted(&mut area, 1);
     counted(&mut area, 2);
     counted(&mut area, 64);
     counted(&mut area, 255);
-    check_vectors::say(b"area ", check_vectors::digest(&area));
+    crate::sum_up(&area);
 }
 
 pub fn images() {
-    image(b"initial image\n", &[]);
+    image(b"initial image\n", b"");
     image(b"busy image\n", &tables::BUSY);
 }

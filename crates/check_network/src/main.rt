@@ -32,56 +32,21 @@ fn call(area: &mut [u8], number: usize, n: u8, row: [u32; 4]) {
 }
 
 // A receipt, shown unless there is nothing to take.
-fn taken(area: &mut [u8], number: usize, n: u8, i: u32, j: u32) {
+fn taken(area: &mut [u8; 65536], number: usize, n: u8, i: u32, j: u32) {
     let r = network::recv(area, i, j);
-    if show::refusal(r) == 4 {
-        return;
+    let refusal = show::refusal(r);
+    if (refusal != 4) & (refusal != 7) {
+        show::answer(number, i, n, r);
     }
-    if show::refusal(r) == 7 {
-        return;
-    }
-    show::answer(number, i, n, r);
-}
-
-// Receipts by station i from stations 0 to 3.
-fn taken_low(area: &mut [u8], number: usize, n: u8, i: u32) {
-    taken(area, number, n, i, 0);
-    taken(area, number, n, i, 1);
-    taken(area, number, n, i, 2);
-    taken(area, number, n, i, 3);
-}
-
-// Receipts by station i from stations 4 to 7.
-fn taken_high(area: &mut [u8], number: usize, n: u8, i: u32) {
-    taken(area, number, n, i, 4);
-    taken(area, number, n, i, 5);
-    taken(area, number, n, i, 6);
-    taken(area, number, n, i, 7);
-}
-
-fn taken_by(area: &mut [u8], number: usize, n: u8, i: u32) {
-    taken_low(area, number, n, i);
-    taken_high(area, number, n, i);
-}
-
-fn taken_by_low(area: &mut [u8], number: usize, n: u8) {
-    taken_by(area, number, n, 0);
-    taken_by(area, number, n, 1);
-    taken_by(area, number, n, 2);
-    taken_by(area, number, n, 3);
-}
-
-fn taken_by_high(area: &mut [u8], number: usize, n: u8) {
-    taken_by(area, number, n, 4);
-    taken_by(area, number, n, 5);
-    taken_by(area, number, n, 6);
-    taken_by(area, number, n, 7);
 }
 
 // A receipt by every station from every station.
-fn receipts(area: &mut [u8], number: usize, n: u8) {
-    taken_by_low(area, number, n);
-    taken_by_high(area, number, n);
+fn receipts(area: &mut [u8; 65536], number: usize, n: u8) {
+    let mut k = 0;
+    while k < 64 {
+        taken(area, number, n, k / 8, k % 8);
+        k += 1;
+    }
 }
 
 // A call on all bytes but the last.
@@ -97,7 +62,7 @@ fn short(area: &mut [u8], number: usize, n: u8, row: [u32; 4]) {
     );
 }
 
-fn step(area: &mut [u8], number: usize, n: u8, row: [u32; 4]) {
+fn step(area: &mut [u8; 65536], number: usize, n: u8, row: [u32; 4]) {
     if row[0] == 6 {
         check_vectors::poke(area, row[1] as usize, (row[2] % 256) as u8);
         return;
@@ -113,29 +78,56 @@ fn step(area: &mut [u8], number: usize, n: u8, row: [u32; 4]) {
     short(area, number, n, row);
 }
 
-pub fn drive(area: &mut [u8], n: u8, steps: &[[u32; 4]]) {
-    let mut i = 0;
-    while i < steps.len() {
-        let row = steps[i];
-        step(area, i + 1, n, row);
-        i += 1;
+// The four numbers of a row, and the place behind it.
+struct Row {
+    numbers: [u32; 4],
+    next: usize,
+}
+
+fn row_at(steps: &[u8], at: usize) -> Row {
+    let a = check_vectors::number(steps, at);
+    let b = check_vectors::number(steps, a.next);
+    let c = check_vectors::number(steps, b.next);
+    let d = check_vectors::number(steps, c.next);
+    Row {
+        numbers: [a.value, b.value, c.value, d.value],
+        next: d.next,
+    }
+}
+
+pub fn drive(area: &mut [u8; 65536], n: u8, steps: &[u8]) {
+    let mut at = 0;
+    let mut number = 0;
+    while at < steps.len() {
+        let r = row_at(steps, at);
+        if r.next <= at {
+            return;
+        }
+        at = r.next;
+        number += 1;
+        let numbers = r.numbers;
+        step(area, number, n, numbers);
     }
 }
 
 // Setup from the header block of these fields.
-pub fn fresh(area: &mut [u8], h: Header, limits: [[u8; 8]; 8]) -> u8 {
+pub fn fresh(area: &mut [u8; 65536], h: Header, limits: [[u8; 8]; 8]) -> u8 {
     let mut block = [0u8; 512];
     header::write(h, limits, &mut block);
     setup::setup(&block, area)
 }
 
-fn run(name: &[u8], h: Header, limits: [[u8; 8]; 8], steps: &[[u32; 4]]) {
+pub fn sum_up(area: &[u8; 65536]) {
+    check_vectors::say(b"area ", check_vectors::digest(area));
+}
+
+fn run(name: &[u8], h: Header, limits: [[u8; 8]; 8], steps: &[u8]) {
     let mut area = blank();
     io::write_all(1, name);
     let r = fresh(&mut area, h, limits);
     check_vectors::say(b", setup ", check_vectors::wide(r));
     drive(&mut area, h.n, steps);
-    check_vectors::say(b"area ", check_vectors::digest(&area));
+    sum_up(&area);
 }
 
 pub fn header_of(n: u8, t: u16, allowances: [u16; 8]) -> Header {
@@ -146,20 +138,24 @@ pub fn pair() -> Header {
     header_of(2, 7, [3, 3, 0, 0, 0, 0, 0, 0])
 }
 
+pub fn pair_limits() -> [[u8; 8]; 8] {
+    tables::PAIR
+}
+
 fn worked() {
-    run(b"worked", pair(), tables::PAIR, &tables::WORKED);
+    run(b"worked", pair(), pair_limits(), &tables::WORKED);
 }
 
 fn refused() {
-    run(b"pair", pair(), tables::PAIR, &tables::REFUSED);
+    run(b"pair", pair(), pair_limits(), &tables::REFUSED);
 }
 
 fn last() {
-    run(b"last phases", pair(), tables::PAIR, &tables::LAST);
+    run(b"last phases", pair(), pair_limits(), &tables::LAST);
 }
 
 fn unreached() {
-    run(b"unreached", pair(), tables::PAIR, &tables::UNREACHED);
+    run(b"unreached", pair(), pair_limits(), &tables::UNREACHED);
 }
 
 fn lone() {
@@ -172,14 +168,9 @@ fn star() {
     run(b"star", h, tables::STAR, &tables::SPOKES);
 }
 
-fn ring() {
-    let h = header_of(8, 65535, [0, 0, 0, 0, 0, 0, 0, 2]);
-    run(b"ring", h, tables::RING, &tables::AROUND);
-}
-
-fn complete() {
-    let h = header_of(8, 17, [0, 0, 0, 0, 0, 0, 0, 2]);
-    run(b"complete", h, tables::COMPLETE, &tables::AROUND);
+fn eight(name: &[u8], t: u16, limits: [[u8; 8]; 8]) {
+    let h = header_of(8, t, [0, 0, 0, 0, 0, 0, 0, 2]);
+    run(name, h, limits, &tables::AROUND);
 }
 
 fn networks() {
@@ -189,8 +180,8 @@ fn networks() {
     unreached();
     lone();
     star();
-    ring();
-    complete();
+    eight(b"ring", 65535, tables::RING);
+    eight(b"complete", 17, tables::COMPLETE);
 }
 
 fn main() {

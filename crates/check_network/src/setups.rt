@@ -30,28 +30,28 @@ fn block_of(name: &[u8], h: Header, limits: [[u8; 8]; 8], at: usize, by: u8) {
 
 pub fn refusals() {
     let h = crate::pair();
-    block_of(b"setup", h, tables::PAIR, 0, 0);
-    block_of(b"kind 2", h, tables::PAIR, 0, 1);
-    block_of(b"spare byte", h, tables::PAIR, 300, 1);
-    block_of(b"check", h, tables::PAIR, 510, 255);
+    block_of(b"setup", h, crate::pair_limits(), 0, 0);
+    block_of(b"kind 2", h, crate::pair_limits(), 0, 1);
+    block_of(b"spare byte", h, crate::pair_limits(), 300, 1);
+    block_of(b"check", h, crate::pair_limits(), 510, 255);
     block_of(
         b"ceiling 6",
         crate::header_of(2, 6, [3, 3, 0, 0, 0, 0, 0, 0]),
-        tables::PAIR,
+        crate::pair_limits(),
         0,
         0,
     );
     block_of(
         b"three stations",
         crate::header_of(3, 7, [3, 3, 0, 0, 0, 0, 0, 0]),
-        tables::PAIR,
+        crate::pair_limits(),
         0,
         0,
     );
     block_of(
         b"one station",
         crate::header_of(1, 7, [3, 0, 0, 0, 0, 0, 0, 0]),
-        tables::PAIR,
+        crate::pair_limits(),
         0,
         0,
     );

@@ -6,32 +6,6 @@ use crate::records;
 use entries::EntriesRead;
 use record::Record;
 
-// Places and values: kind, count, spare bytes and block number of a block of fifteen records.
-const CASES: [[usize; 2]; 22] = [
-    [0, 0],
-    [0, 1],
-    [0, 2],
-    [0, 3],
-    [0, 255],
-    [1, 0],
-    [1, 1],
-    [1, 14],
-    [1, 15],
-    [1, 16],
-    [1, 255],
-    [2, 1],
-    [3, 1],
-    [4, 0],
-    [4, 255],
-    [7, 255],
-    [8, 1],
-    [15, 1],
-    [16, 0],
-    [464, 0],
-    [496, 1],
-    [509, 1],
-];
-
 // Record k: of each kind in turn, its own count 1.
 fn nth(k: usize) -> Record {
     let i = k % 8;
@@ -315,9 +289,15 @@ fn unnamed(good: &[u8]) {
     spares(b"entries bytes 496 to 509 refused at ", good, 496, 510);
 }
 
+// Places and values: kind, count, spare bytes and block number of a block of fifteen records.
 fn cases(good: &[u8]) {
-    let pairs = CASES;
-    check_vectors::cases(2, b"entries with byte ", good, &pairs);
+    check_vectors::cases(
+        2,
+        b"entries with byte ",
+        good,
+        b"0 0,0 1,0 2,0 3,0 255,1 0,1 1,1 14,1 15,1 16,1 255,2 1,3 1,4 0,4 255,\
+          7 255,8 1,15 1,16 0,464 0,496 1,509 1",
+    );
     check_vectors::cuts(2, b"entries cut to ", good);
 }
 

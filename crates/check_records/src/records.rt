@@ -2,56 +2,6 @@
 ghost use Prim.Native.Nat.{_<_, _≤_};
 use record::Record;
 
-// Places and values in an own record of station 0, and in a sent one of station 3 to 5: kind, station, peer, phase, own count and
-// spare bytes at their ends and past them.
-const OWN: [[usize; 2]; 25] = [
-    [0, 0],
-    [0, 1],
-    [0, 2],
-    [0, 4],
-    [0, 255],
-    [1, 7],
-    [1, 8],
-    [1, 255],
-    [2, 0],
-    [2, 8],
-    [2, 254],
-    [2, 255],
-    [3, 1],
-    [4, 64],
-    [7, 1],
-    [8, 0],
-    [11, 0],
-    [12, 1],
-    [13, 1],
-    [14, 1],
-    [15, 1],
-    [15, 128],
-    [16, 0],
-    [18, 0],
-    [31, 255],
-];
-
-const SENT: [[usize; 2]; 17] = [
-    [0, 0],
-    [0, 1],
-    [0, 2],
-    [0, 3],
-    [0, 4],
-    [1, 5],
-    [1, 7],
-    [1, 8],
-    [2, 0],
-    [2, 3],
-    [2, 7],
-    [2, 8],
-    [2, 255],
-    [4, 63],
-    [4, 64],
-    [16, 0],
-    [22, 0],
-];
-
 // The greatest phase and register number; every count is 1.
 pub fn full(kind: u8, station: u8, peer: u8) -> Record {
     Record {
@@ -202,19 +152,31 @@ fn cuts() {
     cut(40);
 }
 
+// Places and values in an own record of station 0, and in a sent one of station 3 to 5: kind, station, peer, phase, own count and
+// spare bytes at their ends and past them.
 fn own() {
     let mut d = [0u8; 32];
     make(&mut d, full(1, 0, 255));
-    let pairs = OWN;
-    check_vectors::cases(3, b"own record with byte ", &d, &pairs);
+    check_vectors::cases(
+        3,
+        b"own record with byte ",
+        &d,
+        b"0 0,0 1,0 2,0 4,0 255,1 7,1 8,1 255,2 0,2 8,2 254,2 255,3 1,4 64,7 1,\
+          8 0,11 0,12 1,13 1,14 1,15 1,15 128,16 0,18 0,31 255",
+    );
     check_vectors::table(3, &d, 0, 32);
 }
 
 fn sent() {
     let mut d = [0u8; 32];
     make(&mut d, full(2, 3, 5));
-    let pairs = SENT;
-    check_vectors::cases(3, b"sent record with byte ", &d, &pairs);
+    check_vectors::cases(
+        3,
+        b"sent record with byte ",
+        &d,
+        b"0 0,0 1,0 2,0 3,0 4,1 5,1 7,1 8,2 0,2 3,2 7,2 8,2 255,4 63,4 64,16 0,\
+          22 0",
+    );
     check_vectors::table(3, &d, 0, 32);
 }
 

@@ -52,6 +52,33 @@ pub fn copy(d: &mut [u8], s: &[u8]) {
     }
 }
 
+// A number of a list, and the place behind it and the byte that ends it.
+pub struct Listed {
+    pub value: u32,
+    pub next: usize,
+}
+
+// The digits from `at` up to the first byte below them, a space or a comma.
+pub fn number(list: &[u8], at: usize) -> Listed {
+    let mut x: u64 = 0;
+    let mut i = at;
+    while i < list.len() {
+        let b = list[i];
+        i += 1;
+        if b < b'0' {
+            return Listed {
+                value: x as u32,
+                next: i,
+            };
+        }
+        x = (x * 10 + wide(b - b'0')) % 4294967296;
+    }
+    Listed {
+        value: x as u32,
+        next: i,
+    }
+}
+
 // A number that tells lists of bytes apart.
 pub fn digest(s: &[u8]) -> u64 {
     let mut h: u64 = 1;

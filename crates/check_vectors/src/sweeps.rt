@@ -46,18 +46,22 @@ pub fn resealed(kind: u8, good: &[u8], at: usize, x: u8) -> u8 {
 }
 
 // A line for each pair of a byte's place and its value.
-pub fn cases(kind: u8, label: &[u8], good: &[u8], pairs: &[[usize; 2]]) {
+pub fn cases(kind: u8, label: &[u8], good: &[u8], pairs: &[u8]) {
     let mut i = 0;
     while i < pairs.len() {
-        let at = pairs[i][0];
-        let x = (pairs[i][1] % 256) as u8;
+        let at = crate::number(pairs, i);
+        let value = crate::number(pairs, at.next);
+        if value.next <= i {
+            return;
+        }
+        i = value.next;
+        let x = (value.value % 256) as u8;
         crate::line(
             label,
-            at as u64,
+            at.value as u64,
             crate::wide(x),
-            crate::wide(resealed(kind, good, at, x)),
+            crate::wide(resealed(kind, good, at.value as usize, x)),
         );
-        i += 1;
     }
 }
 
