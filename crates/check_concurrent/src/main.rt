@@ -323,45 +323,19 @@ fn harm(a: &mut [u8], b: usize, p: usize, x: u8) {
     change(a, b, p, old);
 }
 
-// The header of 31 records: one station fewer, another t, links that some record names and that none does.
-fn header_cases(a: &mut [u8]) {
-    harm(a, 0, 1, 8);
-    harm(a, 0, 1, 7);
-    harm(a, 0, 2, 0);
-    harm(a, 0, 60, 0);
-    harm(a, 0, 94, 0);
-    harm(a, 0, 67, 0);
-    harm(a, 0, 34, 0);
-    harm(a, 0, 0, 2);
-}
-
-// Block numbers, counts of records, and the kind of a block.
-fn block_cases(a: &mut [u8]) {
-    harm(a, 1, 4, 1);
-    harm(a, 1, 4, 2);
-    harm(a, 2, 4, 1);
-    harm(a, 2, 7, 1);
-    harm(a, 3, 4, 4);
-    harm(a, 3, 1, 2);
-    harm(a, 2, 1, 14);
-    harm(a, 3, 0, 1);
-}
-
-// A record's station, peer and phase.
-fn record_cases(a: &mut [u8]) {
-    harm(a, 3, 17, 8);
-    harm(a, 3, 18, 3);
-    harm(a, 3, 18, 6);
-    harm(a, 3, 22, 16);
-}
-
-// Counts up to t and above it, an own count of 0, and a place past the last record.
-fn count_cases(a: &mut [u8]) {
-    harm(a, 3, 32, 208);
-    harm(a, 3, 33, 7);
-    harm(a, 3, 33, 8);
-    harm(a, 3, 44, 0);
-    harm(a, 3, 48, 1);
+// A row for each harm: a block, a byte of it and its value.
+fn harm_all(a: &mut [u8], rows: &[u8]) {
+    let mut i = 0;
+    while i < rows.len() {
+        let b = check_vectors::number(rows, i);
+        let p = check_vectors::number(rows, b.next);
+        let x = check_vectors::number(rows, p.next);
+        if x.next <= i {
+            return;
+        }
+        i = x.next;
+        harm(a, b.value as usize, p.value as usize, (x.value % 256) as u8);
+    }
 }
 
 // Block 2 with the first records of a full one.
@@ -396,10 +370,14 @@ fn harms(a: &mut [u8])
 {
     io::write_all(1, b"harmed\n");
     make(a, 31);
-    header_cases(a);
-    block_cases(a);
-    record_cases(a);
-    count_cases(a);
+    // the header of 31 records: one station fewer, another t, links that some record names and that none does
+    harm_all(a, b"0 1 8,0 1 7,0 2 0,0 60 0,0 94 0,0 67 0,0 34 0,0 0 2");
+    // block numbers, counts of records, and the kind of a block
+    harm_all(a, b"1 4 1,1 4 2,2 4 1,2 7 1,3 4 4,3 1 2,2 1 14,3 0 1");
+    // a record's station, peer and phase
+    harm_all(a, b"3 17 8,3 18 3,3 18 6,3 22 16");
+    // counts up to t and above it, an own count of 0, and a place past the last record
+    harm_all(a, b"3 32 208,3 33 7,3 33 8,3 44 0,3 48 1");
     middle(a, 14);
     middle(a, 15);
     last(a);
