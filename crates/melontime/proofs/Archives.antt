@@ -16,7 +16,7 @@ use Rattle.concurrent.specs.Unordered.{isUnordered, unorderedCount, unorderedAn
 use Rattle.archive.specs.declared.Counted.{Counted}
 use Rattle.archive.specs.declared.Counted.the-variants.{Count, Refused as NotCounted}
 use Rattle.concurrent.proofs.Below.{count-most}
-use Rattle.melontime.specs.Numbers.{greatest, countedNumber}
+use Rattle.host_numbers.specs.Numbers.{greatest, countedNumber}
 use Rattle.melontime.specs.Archives.{HostList}
 
 -- at most 15 records to a block

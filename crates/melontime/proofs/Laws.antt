@@ -17,7 +17,7 @@ use Rattle.steps.specs.declared.answer.Answer.the-variants.{Refused as NotDone,
 use Rattle.steps.specs.declared.answer.Stepped.{Stepped}
 use Rattle.area_calls.specs.Calls.{stepOn}
 use Rattle.network.specs.Answers.{Steps}
-use Rattle.melontime.specs.Numbers.{recordLength, areaLength, entryMade, stepNumber, codeNumber, isEntry}
+use Rattle.host_numbers.specs.Numbers.{recordLength, areaLength, entryMade, stepNumber, codeNumber, isEntry}
 use Rattle.melontime.specs.Calls.{hostStep, recordAfter, eventAfter, Returns}
 
 numbered : (o : Answer) → codeNumber (steppedOf o .answer) ≡ stepNumber o

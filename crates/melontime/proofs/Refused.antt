@@ -22,12 +22,12 @@ use Rattle.rules.specs.Setup.{blockConfig}
 use Rattle.area.specs.Layout.{image, configAt, stateAt, test}
 use Rattle.area.proofs.Formed.{formed}
 use Rattle.area_calls.specs.Calls.{AreaStep, imaged, setupOn, stepOn}
-use Rattle.melontime.specs.Numbers.{tells, recordLength, fieldsLength, areaLength, entryMade, stepNumber, countedNumber}
+use Rattle.host_numbers.specs.Numbers.{tells, recordLength, fieldsLength, areaLength, entryMade, stepNumber, countedNumber}
 use Rattle.melontime.specs.Calls.{HostStep, recordAfter, hostStep}
-use Rattle.melontime.specs.Headers.{fieldsFit, headerGiven, headerWritten, headerFields}
+use Rattle.host_numbers.specs.Headers.{fieldsFit, headerGiven, headerWritten, headerFields}
 use Rattle.melontime.specs.Archives.{recordFound, HostList}
 use Rattle.melontime.specs.Refused.{LeavesRefused, RefusedLeaves}
-use Rattle.melontime.proofs.Tests.{by-test}
+use Rattle.host_numbers.proofs.Tests.{by-test}
 
 -- ---- over the tests that refuse
 -- a refusal leaves the buffer; what was written was not refused

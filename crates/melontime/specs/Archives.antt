@@ -9,7 +9,7 @@ use Rattle.codec.specs.Splice.{splice}
 use Rattle.codec.specs.Written.{Written, refused, wrote}
 use Rattle.archive.specs.Archive.{findRecord, foundRecord}
 use Rattle.concurrent.specs.Unordered.{unorderedAnswer, ListAfter}
-use Rattle.melontime.specs.Numbers.{recordLength, areaLength, countedNumber}
+use Rattle.host_numbers.specs.Numbers.{recordLength, areaLength, countedNumber}
 
 -- a record that is not found is refused as the archive refuses it, an area of under 32 bytes is 11; the rest of an area is left
 unfoldable pub recordFound : List ℕ → ℕ → List ℕ → Written

@@ -10,7 +10,7 @@ use Rattle.reset.specs.Steps.{Step, Answer, refused, entry, modeAfter}
 use Rattle.steps.specs.Answers.{eventRecord}
 use Rattle.area_calls.specs.Calls.{AreaStep, stepOn}
 use Rattle.steps.specs.declared.answer.Stepped.{Stepped}
-use Rattle.melontime.specs.Numbers.{recordLength, areaLength, stepNumber, isEntry}
+use Rattle.host_numbers.specs.Numbers.{recordLength, areaLength, stepNumber, isEntry}
 
 -- an accepted entry writes its record; every other answer leaves the 32 bytes
 abbrev pub recordAfter : List ℕ → Answer → List ℕ

@@ -10,9 +10,9 @@ use Rattle.header.specs.declared.Header.{Header}
 use Rattle.entries.specs.Entries.{writeEntries, readRecord}
 use Rattle.reset.specs.Steps.{Step, refused}
 use Rattle.area_calls.specs.Calls.{setupOn, stepOn}
-use Rattle.melontime.specs.Numbers.{tells, entryMade}
+use Rattle.host_numbers.specs.Numbers.{tells, entryMade}
 use Rattle.melontime.specs.Calls.{hostStep}
-use Rattle.melontime.specs.Headers.{headerWritten, headerFields}
+use Rattle.host_numbers.specs.Headers.{headerWritten, headerFields}
 use Rattle.melontime.specs.Archives.{recordFound, HostList}
 
 -- a call that writes is answered with 0, or has left the buffer as it was

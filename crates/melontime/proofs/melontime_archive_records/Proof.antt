@@ -3,7 +3,7 @@ use denote.Ref.{now}
 use native.Mathlib.Omega.{arith}
 use borrow.Author.Needs.{needs}
 use Rattle.archive.specs.declared.Counted.{Counted}
-use Rattle.melontime.specs.Numbers.{countedNumber}
+use Rattle.host_numbers.specs.Numbers.{countedNumber}
 use Rattle.melontime.proofs.Archives.{counted-small}
 use Rattle.melontime.proofs.melontime_archive_records.Statement.{statement}
 use Rattle.melontime.proofs.melontime_archive_records.Tie as tie

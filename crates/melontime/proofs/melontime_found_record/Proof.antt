@@ -2,7 +2,7 @@ use mathlib.Core.Path.{refl, sym, _∙_}
 use native.Mathlib.Omega.{arith}
 use borrow.Author.Tests.{eq-eqb, ne-eqb, lt-ltb, le-ltb}
 use borrow.Author.Needs.{needs}
-use Rattle.melontime.specs.Numbers.{recordLength}
+use Rattle.host_numbers.specs.Numbers.{recordLength}
 use Rattle.melontime.specs.Archives.{recordFound}
 use Rattle.melontime.proofs.Archives.{found-length, found-is}
 use Rattle.melontime.proofs.melontime_found_record.Statement.{statement}

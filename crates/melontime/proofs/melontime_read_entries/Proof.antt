@@ -1,7 +1,7 @@
 use mathlib.Core.Path.{ap, _∙_}
 use borrow.Author.Needs.{needs}
 use Rattle.entries.specs.declared.EntriesRead.{EntriesRead}
-use Rattle.melontime.specs.Numbers.{blockNumber}
+use Rattle.host_numbers.specs.Numbers.{blockNumber}
 use Rattle.melontime.proofs.melontime_read_entries.Statement.{statement}
 use Rattle.melontime.proofs.melontime_read_entries.Tie as tie
 

@@ -3,8 +3,8 @@ use native.Mathlib.Omega.{arith}
 use borrow.Author.Tests.{not-true, not-false, lt-ltb, le-ltb}
 use borrow.Author.Needs.{needs}
 use Rattle.header.proofs.Laws.{well-made-length}
-use Rattle.melontime.specs.Numbers.{fieldsLength}
-use Rattle.melontime.specs.Headers.{headerFields}
+use Rattle.host_numbers.specs.Numbers.{fieldsLength}
+use Rattle.host_numbers.specs.Headers.{headerFields}
 use Rattle.melontime.proofs.melontime_read_header.Statement.{statement}
 use Rattle.melontime.proofs.melontime_read_header.Tie as tie
 

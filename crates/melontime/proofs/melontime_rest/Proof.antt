@@ -1,7 +1,7 @@
 use mathlib.Core.Path.{ap, _∙_}
 use borrow.Author.Needs.{needs}
 use Rattle.area_calls.specs.Calls.{RestAnswer}
-use Rattle.melontime.specs.Numbers.{restNumber}
+use Rattle.host_numbers.specs.Numbers.{restNumber}
 use Rattle.melontime.proofs.melontime_rest.Statement.{statement}
 use Rattle.melontime.proofs.melontime_rest.Tie as tie
 

@@ -1,7 +1,7 @@
 use mathlib.Core.Path.{ap, _∙_}
 use borrow.Author.Needs.{needs}
 use Rattle.verdict.specs.declared.Compared.{Compared}
-use Rattle.melontime.specs.Numbers.{verdictNumber}
+use Rattle.host_numbers.specs.Numbers.{verdictNumber}
 use Rattle.melontime.proofs.melontime_verdict.Statement.{statement}
 use Rattle.melontime.proofs.melontime_verdict.Tie as tie
 

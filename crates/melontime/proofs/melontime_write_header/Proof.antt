@@ -2,8 +2,8 @@ use mathlib.Core.Path.{refl, sym, _∙_}
 use native.Mathlib.Omega.{arith}
 use borrow.Author.Tests.{not-true, not-false}
 use borrow.Author.Needs.{needs}
-use Rattle.melontime.specs.Headers.{headerWritten}
-use Rattle.melontime.proofs.Headers.{fit-parts}
+use Rattle.host_numbers.specs.Headers.{headerWritten}
+use Rattle.host_numbers.proofs.Headers.{fit-parts}
 use Rattle.melontime.proofs.melontime_write_header.Statement.{statement}
 use Rattle.melontime.proofs.melontime_write_header.Tie as tie
 

@@ -9,7 +9,7 @@ use Rattle.codec.specs.Splice.{splice}
 use Rattle.codec.specs.Written.{Written, refused, wrote}
 use Rattle.header.specs.Header.{tableAt, tableOf, parseHeader, wellMadeHeader, writeHeader}
 use Rattle.header.specs.declared.Header.{Header}
-use Rattle.melontime.specs.Numbers.{fieldsLength, malformed, areaLength}
+use Rattle.host_numbers.specs.Numbers.{fieldsLength, malformed, areaLength}
 
 -- ---- writing
 -- 16 bytes of allowances, 64 of limits, n of one byte and t of two

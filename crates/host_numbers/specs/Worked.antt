@@ -5,7 +5,7 @@ use Rattle.verdict.specs.declared.Compared.the-variants.{Ordered, Refused}
 use Rattle.reset.specs.State.{normal, mute, standBy}
 use Rattle.reset.specs.Steps.{refused, modeAfter}
 use Rattle.area_calls.specs.Calls.{yes, no, restRefused}
-use Rattle.melontime.specs.Numbers.{stepNumber, restNumber, verdictNumber}
+use Rattle.host_numbers.specs.Numbers.{stepNumber, restNumber, verdictNumber}
 
 pub record Worked : Type 0 where
   pub rests : (restNumber yes ≡ 100) × (restNumber no ≡ 101) × (restNumber (restRefused 2) ≡ 2)

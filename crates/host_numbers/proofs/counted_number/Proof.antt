@@ -1,7 +1,7 @@
 use native.Mathlib.Omega.{arith}
 use borrow.Author.Needs.{needs}
-use Rattle.melontime.proofs.counted_number.Statement.{statement}
-use Rattle.melontime.proofs.counted_number.Tie as tie
+use Rattle.host_numbers.proofs.counted_number.Statement.{statement}
+use Rattle.host_numbers.proofs.counted_number.Tie as tie
 
 pub counted-number-spec : {M : Type 1} → statement M
 counted-number-spec =

@@ -2,9 +2,9 @@ use denote.Ref.{now}
 use native.Mathlib.Omega.{arith}
 use borrow.Author.Needs.{needs}
 use Rattle.codec.specs.Num.{AreBytes}
-use Rattle.melontime.proofs.Headers.{fields-put}
-use Rattle.melontime.proofs.put_fields.Statement.{statement}
-use Rattle.melontime.proofs.put_fields.Tie as tie
+use Rattle.host_numbers.proofs.Headers.{fields-put}
+use Rattle.host_numbers.proofs.put_fields.Statement.{statement}
+use Rattle.host_numbers.proofs.put_fields.Tie as tie
 
 returns : tie.Need-returns
 returns c =

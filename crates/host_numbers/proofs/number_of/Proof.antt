@@ -1,6 +1,6 @@
 use borrow.Author.Needs.{needs}
-use Rattle.melontime.proofs.number_of.Statement.{statement}
-use Rattle.melontime.proofs.number_of.Tie as tie
+use Rattle.host_numbers.proofs.number_of.Statement.{statement}
+use Rattle.host_numbers.proofs.number_of.Tie as tie
 
 pub number-of-spec : {M : Type 1} → statement M
 number-of-spec =

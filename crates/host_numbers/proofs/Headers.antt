@@ -18,7 +18,7 @@ use Rattle.codec.proofs.SpliceLaws.{first, next}
 use Rattle.header.specs.Header.{headerFits, tableAt, tableOf, parseHeader, imageHeader, writeHeader}
 use Rattle.header.specs.declared.Header.{Header}
 use Rattle.header.proofs.Laws.{Typed, Table, table-forth, table-rows, table-row, image-length, parse-image, table-image, image-accepted}
-use Rattle.melontime.specs.Headers.{fieldsFit, headerGiven, headerWritten, fieldBytes, headerFields}
+use Rattle.host_numbers.specs.Headers.{fieldsFit, headerGiven, headerWritten, fieldBytes, headerFields}
 
 -- fields that fit, part by part
 pub fit-parts : (n t : ℕ) (x m : List ℕ) → fieldsFit n t x m ≡ true → (length x ≡ 16) × (length m ≡ 64) × (n ≤ 255) × (t ≤ 65535)

@@ -31,8 +31,8 @@ use Rattle.station.specs.Image.{modeByte, modeOf}
 use Rattle.steps.specs.Answers.{modeCode, steppedOf}
 use Rattle.steps.specs.declared.answer.Answer.{Answer as CodeAnswer}
 use Rattle.steps.specs.declared.answer.Answer.the-variants.{Refused as NotDone, Entered, InMode}
-use Rattle.melontime.specs.Numbers.{Alike, entryMade, tells, modes, counts, stepNumber, restNumber, orderNumber, verdictNumber, blockNumber, countedNumber}
-use Rattle.melontime.proofs.Tests.{by-test}
+use Rattle.host_numbers.specs.Numbers.{Alike, entryMade, tells, modes, counts, stepNumber, restNumber, orderNumber, verdictNumber, blockNumber, countedNumber}
+use Rattle.host_numbers.proofs.Tests.{by-test}
 
 -- the answer x is read back from its number; so one number is one answer
 abbrev Back : {A : Type 0} → (A → ℕ) → (ℕ → A) → A → Type 0

@@ -1,8 +1,0 @@
-use borrow.Author.Needs.{needs}
-use Rattle.melontime.specs.Headers.{fieldsFit}
-use Rattle.melontime.proofs.fields_fit.Statement.{statement}
-use Rattle.melontime.proofs.fields_fit.Tie as tie
-
-pub fields-fit-spec : {M : Type 1} → statement M
-unfolding fieldsFit
-fields-fit-spec = tie.close (tie.spec (λ c. search needs))
