@@ -200,23 +200,11 @@ fn run(bytes: &mut [u8], line: &mut [u8], block: &mut [u8], area: &mut [u8], out
     }
 }
 
-fn block() -> [u8; 512]
-    ensures { λ r. ⌜ (length r ≡ 512) × (r ≡ Blank 512) ⌝ }
-{
-    [0u8; 512]
-}
-
-fn area() -> [u8; 65536]
-    ensures { λ r. ⌜ (65536 ≡ length r) × (r ≡ Blank 65536) ⌝ }
-{
-    [0u8; 65536]
-}
-
 fn main() {
     let mut bytes = io::large_buffer();
     let mut line = [0u8; 32];
-    let mut block = block();
-    let mut area = area();
+    let mut block = turnover_settings::block();
+    let mut area = turnover_settings::area();
     let mut out = io::large_buffer();
     let last = run(&mut bytes, &mut line, &mut block, &mut area, &mut out);
     let end = last.end;

@@ -113,8 +113,7 @@ pub fn finish(
     ensures { λ r. ⌜ r ≤ end + (longest + longest) ⌝ }
 {
     if have == 0 {
-        let closed = turnover_commands::close(block, area, out, end, run);
-        return closed.end;
+        return turnover_commands::close(block, area, out, end, run).end;
     }
     let told = turnover_commands::obey(
         block,
@@ -124,7 +123,5 @@ pub fn finish(
         run,
         turnover_input::lines::said(line, have),
     );
-    let after = told.run;
-    let closed = turnover_commands::close(block, area, out, told.end, after);
-    closed.end
+    turnover_commands::close(block, area, out, told.end, told.run).end
 }

@@ -2,6 +2,7 @@
 use header::Header;
 ghost use mathlib.Core.Path.{_≡_};
 ghost use lib.ListN.{length};
+ghost use Rattle.codec.specs.Every.{blank};
 ghost use Rattle.turnover_settings.specs.Settings.{openedRun, namedRun, stagedRun, numberedRun, allowedRun, allowanceSet, limitSet, linkSet, settingsOf, settingsBlock, setUp};
 
 // Where a run stands: before `net`, before setup, after setup, and behind a refused setup.
@@ -33,6 +34,19 @@ pub fn opened() -> Run
         allowances: [0u16; 8],
         number: 0,
     }
+}
+
+// The header block and the area of a run before its first line.
+pub fn block() -> [u8; 512]
+    ensures { λ r. ⌜ (length r ≡ 512) × (r ≡ blank 512) ⌝ }
+{
+    [0u8; 512]
+}
+
+pub fn area() -> [u8; 65536]
+    ensures { λ r. ⌜ (65536 ≡ length r) × (r ≡ blank 65536) ⌝ }
+{
+    [0u8; 65536]
 }
 
 // A run after `net`.

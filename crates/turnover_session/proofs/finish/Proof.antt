@@ -18,7 +18,7 @@ returns c =
 returns-2 : tie.Need-returns-2
 returns-2 c =
     let x = c .before .before .before .before .before .before in
-    let o = x .before .before .before .before .before .before .before .before .before .before .before in
+    let o = x .before .before .before .before .before .before .before .before .before .before in
     let e = o .before .before .before .before .before in
     let a = e .before .before .before .before .before .args in
     let s = standing (a .run) (now (a .block)) (now (a .area)) in

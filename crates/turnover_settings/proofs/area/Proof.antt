@@ -1,7 +1,7 @@
 use mathlib.Core.Path.{refl}
 use Rattle.codec.specs.Every.{blank}
-use Rattle.turnover.proofs.area.Statement.{statement}
-use Rattle.turnover.proofs.area.Tie as tie
+use Rattle.turnover_settings.proofs.area.Statement.{statement}
+use Rattle.turnover_settings.proofs.area.Tie as tie
 
 returns : tie.Need-returns
 unfolding blank
