@@ -3,15 +3,9 @@ use borrow.Author.Needs.{needs}
 use Rattle.check_script.proofs.entries.Statement.{statement}
 use Rattle.check_script.proofs.entries.Tie as tie
 
-abbrev Inv-loop : tie.InvT-loop
-Inv-loop mixed n₀ n = n ≤ 11
-
-abbrev μ-loop : tie.MeasureT-loop
-μ-loop mixed n₀ n = 11 - n
-
 pub entries-spec : {M : Type 1} → statement M
 entries-spec =
     tie.close
-    (tie.spec Inv-loop μ-loop (λ c. search needs) (λ c. search needs) (λ c κs. search needs) (λ c. search needs)
+    (tie.spec (λ mixed n₀ n. n ≤ 11) (λ mixed n₀ n. 11 - n) (λ c. search needs) (λ c. search needs) (λ c κs. search needs) (λ c. search needs)
     (λ c. search needs) (λ c. search needs) (λ c κs. search needs) (λ c κs. search needs) (λ c κs. search needs)
     (λ c κs. search needs) (λ c κs. search needs) (λ c κs. search needs) (λ c. search needs))

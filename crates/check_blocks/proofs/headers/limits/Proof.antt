@@ -3,14 +3,8 @@ use borrow.Author.Needs.{needs}
 use Rattle.check_blocks.proofs.headers.limits.Statement.{statement}
 use Rattle.check_blocks.proofs.headers.limits.Tie as tie
 
-abbrev Inv-loop : tie.InvT-loop
-Inv-loop x answer n₀ k₀ n k = (n ≤ k) × (k ≤ 64)
-
-abbrev μ-loop : tie.MeasureT-loop
-μ-loop x answer n₀ k₀ n k = 64 - k
-
 pub limits-spec : {M : Type 1} → statement M
 limits-spec =
     tie.close
-    (tie.spec Inv-loop μ-loop (λ c. search needs) (λ c κs. search needs) (λ c κs. search needs) (λ c. search needs)
+    (tie.spec (λ x answer n₀ k₀ n k. (n ≤ k) × (k ≤ 64)) (λ x answer n₀ k₀ n k. 64 - k) (λ c. search needs) (λ c κs. search needs) (λ c κs. search needs) (λ c. search needs)
     (λ c. search needs) (λ c. search needs) (λ c. search needs) (λ c. search needs))

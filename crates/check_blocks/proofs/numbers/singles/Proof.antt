@@ -3,13 +3,7 @@ use borrow.Author.Needs.{needs}
 use Rattle.check_blocks.proofs.numbers.singles.Statement.{statement}
 use Rattle.check_blocks.proofs.numbers.singles.Tie as tie
 
-abbrev Inv-loop : tie.InvT-loop
-Inv-loop x n₀ p₀ n p = (n ≤ p * 65536) × (p ≤ 510)
-
-abbrev μ-loop : tie.MeasureT-loop
-μ-loop x n₀ p₀ n p = 510 - p
-
 pub singles-spec : {M : Type 1} → statement M
 singles-spec =
     tie.close
-    (tie.spec Inv-loop μ-loop (λ c. search needs) (λ c κs. search needs) (λ c. search needs) (λ c. search needs) (λ c. search needs) (λ c. search needs) (λ c. search needs))
+    (tie.spec (λ x n₀ p₀ n p. (n ≤ p * 65536) × (p ≤ 510)) (λ x n₀ p₀ n p. 510 - p) (λ c. search needs) (λ c κs. search needs) (λ c. search needs) (λ c. search needs) (λ c. search needs) (λ c. search needs) (λ c. search needs))

@@ -3,15 +3,9 @@ use borrow.Author.Needs.{needs}
 use Rattle.check_network.proofs.show.counts.Statement.{statement}
 use Rattle.check_network.proofs.show.counts.Tie as tie
 
-abbrev Inv-loop : tie.InvT-loop
-Inv-loop n c top i₀ t6 i = i ≤ 8
-
-abbrev μ-loop : tie.MeasureT-loop
-μ-loop n c top i₀ t6 i = 8 - i
-
 pub counts-spec : {M : Type 1} → statement M
 counts-spec =
     tie.close
-    (tie.spec Inv-loop μ-loop (λ c. search needs) (λ c. search needs) (λ c. search needs) (λ c. search needs)
+    (tie.spec (λ n c top i₀ t6 i. i ≤ 8) (λ n c top i₀ t6 i. 8 - i) (λ c. search needs) (λ c. search needs) (λ c. search needs) (λ c. search needs)
     (λ c κs. search needs) (λ c κs. search needs) (λ c. search needs) (λ c. search needs) (λ c. search needs)
     (λ c. search needs))

@@ -3,14 +3,8 @@ use borrow.Author.Needs.{needs}
 use Rattle.check_records.proofs.blocks.all_records.Statement.{statement}
 use Rattle.check_records.proofs.blocks.all_records.Tie as tie
 
-abbrev Inv-loop : tie.InvT-loop
-Inv-loop s k₀ t4 k = k ≤ 15
-
-abbrev μ-loop : tie.MeasureT-loop
-μ-loop s k₀ t4 k = 15 - k
-
 pub all-records-spec : {M : Type 1} → statement M
 all-records-spec =
     tie.close
-    (tie.spec Inv-loop μ-loop (λ c. search needs) (λ c κs. search needs) (λ c. search needs) (λ c κs. search needs)
+    (tie.spec (λ s k₀ t4 k. k ≤ 15) (λ s k₀ t4 k. 15 - k) (λ c. search needs) (λ c κs. search needs) (λ c. search needs) (λ c κs. search needs)
     (λ c κs. search needs) (λ c. search needs) (λ c. search needs) (λ c. search needs) (λ c. search needs))
