@@ -8,6 +8,15 @@ mod t {
 }
 use t::*;
 const A: usize = 65536;
+// The rows of a list of steps.
+fn rows(list: &[u8]) -> Vec<[u32; 4]> {
+    let text = std::str::from_utf8(list).unwrap();
+    let row = |r: &str| {
+        let n: Vec<u32> = r.split(' ').map(|x| x.parse().unwrap()).collect();
+        n.try_into().unwrap()
+    };
+    text.split(',').filter(|r| !r.is_empty()).map(row).collect()
+}
 fn digest(s: &[u8]) -> u64 {
     let mut h = 1u64;
     for &b in s {
@@ -118,10 +127,10 @@ fn fresh(a: &mut Vec<u8>, h: Header) -> u8 {
         Err(e) => num(e),
     }
 }
-fn run(name: &str, h: Header, steps: &[[u32; 4]]) {
+fn run(name: &str, h: Header, steps: &[u8]) {
     let mut a = vec![7u8; A];
     println!("{name}, setup {}", fresh(&mut a, h));
-    drive(&mut a, h.n(), steps);
+    drive(&mut a, h.n(), &rows(steps));
     println!("area {}", digest(&a));
 }
 fn setups(name: &str, h: Header, at: usize, by: u8) {
@@ -143,11 +152,11 @@ fn setups(name: &str, h: Header, at: usize, by: u8) {
     println!("not 7: {}", a.iter().filter(|&&x| x != 7).count());
     println!("area {}", digest(&a));
 }
-fn flips(name: &str, steps: &[[u32; 4]]) {
+fn flips(name: &str, steps: &[u8]) {
     println!("{name} image");
     let mut a = vec![7u8; A];
     fresh(&mut a, head(2, 7, [3, 3, 0, 0, 0, 0, 0, 0], PAIR));
-    drive(&mut a, 2, steps);
+    drive(&mut a, 2, &rows(steps));
     for by in [1u8, 2, 64, 255] {
         let (mut no, mut other) = (0, 0);
         for p in 0..A {
