@@ -13,7 +13,7 @@ use Rattle.codec.proofs.EveryLaws.{both, join, every-none, zeros-total, every-a
 use Rattle.codec.proofs.FlagLaws.{every-turn}
 use Rattle.reset.specs.Config.{Config, places}
 use Rattle.link.specs.Image.{itemsTest, linkTest, sized}
-use Rattle.link.proofs.Laws.{link-parts, link-idle}
+use Rattle.link.proofs.Laws.{link-parts, link-idle, items-few}
 use Rattle.area.specs.Layout.{linkBytes, linkTestAt, linksTest}
 
 -- ---- runs of zeros
@@ -69,12 +69,11 @@ module _ (c : Config) (a : List ℕ) (long : length a ≡ 65536) where
   pub busy-turn : (k from : ℕ) → k < 64 → Read c a k from → places c (k / 8) (k % 8) ≤ 34
       → (itemsTest (places c (k / 8) (k % 8)) (sized (c .n) (c .t)) (linkBytes a k) && allZero (take (888 + k * 715 - from) (drop from a))) ≡ true
       → Read c a (k + 1) (888 + k * 715 + (1 + getD a (888 + k * 715) 0 * 21))
-  unfolding itemsTest
   busy-turn k from h r few w =
       let o : ℕ = 888 + k * 715 in
       let d : ℕ = getD a o 0 in
       let p = both (itemsTest (places c (k / 8) (k % 8)) (sized (c .n) (c .t)) (linkBytes a k)) _ w in
-      let b : getD (linkBytes a k) 0 0 ≤ places c (k / 8) (k % 8) = leb-true _ _ (both (leb (getD (linkBytes a k) 0 0) (places c (k / 8) (k % 8))) _ (p .0) .0) in
+      let b : getD (linkBytes a k) 0 0 ≤ places c (k / 8) (k % 8) = items-few (places c (k / 8) (k % 8)) _ _ (p .0) in
       let s : d ≤ 34 = omega (arith, link-count k) in
       (omega arith, every-turn k (linkTestAt c a) ∙ rw (r .1, p .1, link-parts c (k / 8) (k % 8) _ (linkBytes a k) refl, p .0, link-count k) (ap allZero (tail k d h s)))
 

@@ -20,7 +20,7 @@ pub const LINKS: usize = 888;
 pub const BEHIND_STATIONS: usize = 64648;
 
 // How many items link k can hold, by its limit in the header block.
-fn places_of(head: &[u8], k: usize) -> u8
+fn places_of(head: &[u8], k: usize) -> u32
     requires { ⌜ (length (now head) ≡ 512) × (k < 64) × (wellMade (blockConfig (now head)) ≡ true) ⌝ }
     ensures { λ r. ⌜ (r ≡ places (blockConfig (now (head .entry))) (k / 8) (k % 8)) × (r ≤ mostItems) ⌝ }
 {
@@ -28,7 +28,7 @@ fn places_of(head: &[u8], k: usize) -> u8
     if limit == 0 {
         return 0;
     }
-    limit + 2
+    link::places(limit)
 }
 
 fn stations_fit(head: &[u8], a: &[u8]) -> bool

@@ -1,32 +1,31 @@
 -- A link's bytes: what is written is read back, and what is accepted is the image of a queue in range. Assumes nothing.
 use Prim.Native.Nat.{ℕ, _+_, _*_, _-_, _≤_, _<_}
 use mathlib.Core.Path.{_≡_, refl, _∙_, sym, ap}
-use mathlib.Core.List.{List, [], _∷_, _++_, append-assoc, append-nil}
+use mathlib.Core.List.{List, [], _∷_, _++_}
 use mathlib.Core.Bool.{Bool, true, false, cond, _&&_, _||_, true≢false}
 use native.Mathlib.Omega.{arith}
 use native.Mathlib.Decide.{decLt}
 use lib.Dec.{eqb, leb}
-use lib.ListN.{length, getD, take, drop, set, length-append, length-take, length-drop, take-append-drop, List·getD-eq-default}
-use lib.Seq.{take-at, drop-at, drop-cons, drop-drop}
+use lib.ListN.{length, getD, drop, length-take, length-drop, List·getD-eq-default}
+use lib.Seq.{drop-cons}
 use borrow.Author.Tests.{eqb-true, leb-true, le-leb}
 use Rattle.codec.specs.Num.{AreBytes, bytesOf, numAt, numsOf, numsAt}
-use Rattle.codec.specs.Rows.{rows, upto}
-use Rattle.codec.specs.Splice.{splice}
 use Rattle.codec.specs.Every.{blank, every, total, allZero}
 use Rattle.codec.proofs.NumLaws.{below-of, of-below}
 use Rattle.codec.proofs.Has.{has-last, has-more, has-num, has-nums, num-below, nums-below}
 use Rattle.codec.proofs.Fronts.{front-nums, front-num, front-byte, front-none, front-all, bytes-take, bytes-drop}
-use Rattle.codec.proofs.SpliceLaws.{drop-past}
-use Rattle.codec.proofs.Stride.{rows-length, rows-append, row-at, rows-made, upto-length, upto-at, upto-is}
 use Rattle.codec.proofs.EveryLaws.{both, join, every-none, every-at, every-of, total-zero, zeros-blank}
-use Rattle.codec.proofs.BlankLaws.{blank-length, blank-append, blank-drop}
+use Rattle.codec.proofs.BlankLaws.{blank-length}
+use Rattle.queue.specs.Queue.{imageQueue, placeAt, itemsPass}
+use Rattle.queue.proofs.Laws as queue
+use Rattle.queue.proofs.Laws.{queue-length, queue-count, queue-empty, queue-behind, queue-place, parse-image, image-parse}
 use Rattle.reset.specs.Reach.{limit, linked}
 use Rattle.reset.specs.Config.{Config, isStation, neighbours, places, wellMade}
 use Rattle.reset.proofs.ConfigLaws.{shape, linked-small}
 use Rattle.reset.specs.Clock.{vector, countFits, timestampFits}
 use Rattle.reset.specs.State.{Item, message, resetReq, resetDone}
 use Rattle.reset.specs.WellFormed.{itemFits, itemFitsAt, linkFits}
-use Rattle.link.specs.Image.{Queue, itemOf, imageItem, parseItem, itemTest, imageLink, placeAt, itemAt, parseLink, itemTestAt, itemsTest, queueTest, linkTest, sized, RangedItem, RangedLink}
+use Rattle.link.specs.Image.{Queue, itemOf, imageItem, parseItem, itemTest, imageLink, itemAt, parseLink, itemsTest, linkTest, sized, RangedItem, RangedLink}
 
 -- ---- an item
 pub item-length : (x : Item vector) → length (imageItem x) ≡ 21
@@ -148,153 +147,50 @@ item-passes c resetDone r h = unfold imageItem in zeros-blank 20
 -- ---- a queue
 pub link-length : (q : Queue) → length (imageLink q) ≡ 715
 unfolding imageLink
-link-length q = simp (length-take, length-append, blank-length) (omega arith)
+link-length = queue-length imageItem 21 item-length 714
 
 pub link-count : (q : Queue) → getD (imageLink q) 0 0 ≡ length q
 unfolding imageLink
-link-count q = refl
-
-items-length : (q : Queue) → length (rows imageItem q) ≡ length q * 21
-items-length q = rows-length imageItem 21 item-length q
-
--- the form in which a queue that fits is changed
-pub link-form : (q : Queue) → length q ≤ 34 → imageLink q ≡ length q ∷ (rows imageItem q ++ blank (714 - length q * 21))
-unfolding imageLink
-link-form q h =
-    let n : ℕ = length q in
-    let e : length (rows imageItem q) ≡ n * 21 = items-length q in
-    let m : 714 - n * 21 + n * 21 ≡ 714 = omega arith in
-    let z : blank 714 ≡ blank (714 - n * 21) ++ blank (n * 21) = sym (blank-append (714 - n * 21) (n * 21) ∙ ap blank m) in
-    let p : List ℕ = rows imageItem q ++ blank (714 - n * 21) in
-    let lp : length p ≡ 714 = simp (length-append, blank-length) (omega arith) in
-    ap (λ (l : List ℕ). n ∷ take 714 l) (ap (λ (l : List ℕ). rows imageItem q ++ l) z ∙ sym (append-assoc (rows imageItem q) _ _))
-    ∙ ap (λ (l : List ℕ). n ∷ l) (take-at p (blank (n * 21)) 714 lp)
+link-count = queue-count imageItem 21 item-length 714
 
 -- an empty link is all zeros
 pub link-empty : imageLink [] ≡ blank 715
-link-empty =
-    let one : blank 1 ≡ 0 ∷ [] = unfold blank in refl in
-    link-form [] (omega arith) ∙ (rw one at (blank-append 1 714))
-
--- an item written behind the others
-pub pushed : (q : Queue) (x : Item vector) {l m : List ℕ} {k v : ℕ} → l ≡ imageLink q → m ≡ splice l (1 + k * 21) (imageItem x) → v ≡ k + 1 → k ≡ length q → length q < 34
-    → set m 0 v ≡ imageLink (q ++ (x ∷ []))
-pushed q x c d f g h =
-    let n : ℕ = length q in
-    let p : List ℕ = n ∷ rows imageItem q in
-    let z : List ℕ = blank (714 - n * 21) in
-    let e : length p ≡ 1 + n * 21 = omega (arith, items-length q) in
-    let a : take (1 + n * 21) (p ++ z) ≡ p = take-at p z (1 + n * 21) e in
-    let b : drop (1 + n * 21 + length (imageItem x)) (p ++ z) ≡ drop (length (imageItem x)) z = drop-past p z (1 + n * 21) (length (imageItem x)) e in
-    let m : (n + 1) * 21 ≡ n * 21 + 21 = omega arith in
-    let k : 714 - n * 21 - 21 ≡ 714 - (n * 21 + 21) = omega arith in
-    let long : length (q ++ (x ∷ [])) ≡ n + 1 = length-append q (x ∷ []) in
-    rw (d, c, f, g, link-form q (omega arith), link-form (q ++ (x ∷ [])) (omega arith))
-    (rw (a, b, item-length x, blank-drop, length-append, rows-append imageItem 21 item-length, m, k, append-nil, append-assoc))
-
--- the first item taken off: the places in use move by one, and zeros follow them
-pub popped : (x : Item vector) (q : Queue) → length (x ∷ q) ≤ 34
-    → set (splice (imageLink (x ∷ q)) 1 (drop 21 (take (length (x ∷ q) * 21) (drop 1 (imageLink (x ∷ q)))) ++ blank 21)) 0 (length q) ≡ imageLink q
-popped x q h =
-    let n : ℕ = length q in
-    let a : List ℕ = imageItem x in
-    let s : length (rows imageItem (x ∷ q)) ≡ length (x ∷ q) * 21 = items-length (x ∷ q) in
-    let z : List ℕ = blank (714 - length (x ∷ q) * 21) in
-    let r : length (rows imageItem q) ≡ n * 21 = items-length q in
-    let t : take (length (x ∷ q) * 21) (rows imageItem (x ∷ q) ++ z) ≡ rows imageItem (x ∷ q) = take-at (rows imageItem (x ∷ q)) z _ s in
-    let d : drop 21 (a ++ rows imageItem q) ≡ rows imageItem q = drop-at a (rows imageItem q) 21 (item-length x) in
-    let y : length (rows imageItem q ++ blank 21) ≡ length (x ∷ q) * 21 = simp (length-append, blank-length) (omega arith) in
-    let f : drop (1 + length (x ∷ q) * 21) (length (x ∷ q) ∷ (rows imageItem (x ∷ q) ++ z)) ≡ z
-    = drop-at (length (x ∷ q) ∷ rows imageItem (x ∷ q)) z (1 + length (x ∷ q) * 21) (omega arith) in
-    let k : 21 + (714 - length (x ∷ q) * 21) ≡ 714 - n * 21 = omega arith in
-    rw (link-form (x ∷ q) h, link-form q (omega arith)) (rw (t, d, y, f, append-assoc, blank-append, k))
-
--- place k of a queue's bytes
-link-place : (q : Queue) (k : ℕ) → length q ≤ 34 → k < length q → placeAt (imageLink q) k ≡ imageItem (getD q k resetReq)
-link-place q k m h =
-    rw (link-form q m) (row-at imageItem 21 item-length (length q ∷ []) (blank (714 - length q * 21)) q k resetReq 1 refl h)
-
-pub link-item : (q : Queue) (k : ℕ) → RangedLink q → k < length q → itemAt (imageLink q) k ≡ getD q k resetReq
-unfolding itemAt
-link-item q k r h = ap parseItem (link-place q k (r .most) h) ∙ item-parse-image (getD q k resetReq) (r .items k h)
+unfolding imageLink
+link-empty = queue-empty imageItem 21 item-length 714
 
 -- a queue read back as written
 pub link-parse-image : (q : Queue) → RangedLink q → parseLink (imageLink q) ≡ q
-unfolding parseLink
+unfolding parseLink imageLink
 link-parse-image q r =
-    rw (link-count q) (upto-is (length q) (itemAt (imageLink q)) q resetReq refl (λ (k : ℕ) (h : k < length q). link-item q k r h))
+    let m = r .most in
+    parse-image imageItem 21 item-length 714 parseItem q resetReq (omega arith) (λ k h. item-parse-image (getD q k resetReq) (r .items k h))
 
 pub parse-count : (l : List ℕ) → length (parseLink l) ≡ getD l 0 0
 unfolding parseLink
-parse-count l = upto-length (getD l 0 0) (itemAt l)
+parse-count = queue.parse-count 21 parseItem
 
 pub parse-item : (l : List ℕ) (k : ℕ) → k < getD l 0 0 → getD (parseLink l) k resetReq ≡ itemAt l k
-unfolding parseLink
-parse-item l k h = upto-at (getD l 0 0) (itemAt l) k resetReq h
+unfolding parseLink itemAt
+parse-item l k = queue.parse-item 21 parseItem l k resetReq
 
 -- ---- what passes the test
 -- the items, of a configuration by n and t alone, and the zeros behind them
-pub link-parts : (c : Config) (i j m : ℕ) (l : List ℕ) → m ≡ places c i j
-    → linkTest c i j l ≡ (itemsTest m (sized (c .n) (c .t)) l && allZero (drop (1 + getD l 0 0 * 21) l))
-unfolding linkTest queueTest itemsTest itemTest timestampFits isStation
-link-parts c i j m l e = rw e (and-assoc (leb (getD l 0 0) (places c i j)) (every (getD l 0 0) (itemTestAt c l)) (allZero (drop (1 + getD l 0 0 * 21) l)))
-  where
-    and-assoc : (a b d : Bool) → (a && (b && d)) ≡ (a && b && d)
-    and-assoc true b d = refl
-    and-assoc false b d = refl
+pub link-parts : (c : Config) (i j m : ℕ) (l : List ℕ) → m ≡ places c i j → linkTest c i j l ≡ (itemsTest m (sized (c .n) (c .t)) l && allZero (drop (1 + getD l 0 0 * 21) l))
+unfolding linkTest itemsTest itemsPass itemTest timestampFits isStation
+link-parts c i j m l e = rw e
+
+-- at most m items
+pub items-few : (m : ℕ) (c : Config) (l : List ℕ) → itemsTest m c l ≡ true → getD l 0 0 ≤ m
+unfolding itemsTest itemsPass
+items-few m c l h = leb-true _ _ (both (leb (getD l 0 0) m) _ h .0)
 
 -- of no item all is zero, the count too
 pub link-idle : (c : Config) (i j : ℕ) (l : List ℕ) → 0 < length l → getD l 0 0 ≡ 0 → linkTest c i j l ≡ allZero l
-unfolding linkTest queueTest total
+unfolding linkTest itemsTest itemsPass total
 link-idle c i j l h e =
     let f : total l ≡ getD l 0 0 + total (drop 1 l) = ap total (drop-cons l 0 0 h) in
     let g : total l ≡ total (drop 1 l) = omega arith in
     rw (e, le-leb 0 (places c i j) (omega arith), every-none, g)
-
-module _ (m : ℕ) (c : Config) (l : List ℕ) (w : queueTest m c l ≡ true) where
-  -- the test, part by part
-  parts : (getD l 0 0 ≤ m) × (every (getD l 0 0) (itemTestAt c l) ≡ true) × (allZero (drop (1 + getD l 0 0 * 21) l) ≡ true)
-  unfolding queueTest
-  parts =
-      let p = both (leb (getD l 0 0) m) _ w in
-      let q = both (every (getD l 0 0) (itemTestAt c l)) _ (p .1) in
-      (leb-true _ _ (p .0), q .0, q .1)
-
-  module _ (b : AreBytes l) where
-    bytes-place : (k : ℕ) → AreBytes (placeAt l k)
-    bytes-place k = bytes-take 21 (drop (1 + k * 21) l) (bytes-drop (1 + k * 21) l b)
-
-    queue-image : length l ≡ 715 → m ≤ 34 → imageLink (parseLink l) ≡ l
-    unfolding parseLink itemAt
-    queue-image e few =
-        let d : ℕ = getD l 0 0 in
-        let h : d ≤ m = parts .0 in
-        let z : drop (1 + d * 21) l ≡ blank (length (drop (1 + d * 21) l)) = total-zero (drop (1 + d * 21) l) (eqb-true _ _ (parts .2)) in
-        let k : length (drop (1 + d * 21) l) ≡ 714 - d * 21 = simp length-drop (omega arith) in
-        let r : rows imageItem (upto d (itemAt l)) ≡ take (d * 21) (drop 1 l)
-        = rows-made imageItem 21 item-length (itemAt l) d 1 l (λ (i : ℕ) (g : i < d). whole i g) (omega arith) in
-        let u : length (upto d (itemAt l)) ≡ d = upto-length d (itemAt l) in
-        let y : drop (1 + d * 21) l ≡ blank (714 - d * 21) = z ∙ ap blank k in
-        link-form (upto d (itemAt l)) (omega arith)
-        ∙ rw (u, r, ← y, ← drop-drop (d * 21) 1 l, take-append-drop) (sym (drop-cons l 0 0 (omega arith)))
-      where
-        whole : (i : ℕ) → i < getD l 0 0 → imageItem (parseItem (placeAt l i)) ≡ placeAt l i
-        whole i g =
-            let h : getD l 0 0 ≤ m = parts .0 in
-            item-image-parse c (placeAt l i) (bytes-place i) (simp (length-take, length-drop) (omega arith)) (every-at (getD l 0 0) (itemTestAt c l) i (parts .1) g)
-
-    queue-ranged : m ≤ 34 → RangedLink (parseLink l)
-    unfolding itemAt
-    queue-ranged few =
-        let h : getD l 0 0 ≤ m = parts .0 in
-        record {
-          most = omega (arith, parse-count l);
-          items = λ (k : ℕ) (g : k < length (parseLink l)). rw (parse-item l k (omega (arith, parse-count l))) (item-ranged (placeAt l k) (bytes-place k));
-        }
-
-    queue-fits : (k : ℕ) → k < getD l 0 0 → itemFitsAt c (parseLink l) k ≡ true
-    unfolding itemAt
-    queue-fits k h = rw (parse-item l k h) (item-fits c (placeAt l k) (bytes-place k) (every-at (getD l 0 0) (itemTestAt c l) k (parts .1) h))
 
 -- of a link in a well-made configuration
 pub places-most : (c : Config) → wellMade c ≡ true → (i j : ℕ) → places c i j ≤ 34
@@ -306,25 +202,42 @@ places-most c h i j = go (linked (c .limits) i j) refl
     go false e = omega arith
 
 module _ (c : Config) (i j : ℕ) (l : List ℕ) (b : AreBytes l) (w : linkTest c i j l ≡ true) where
-  opened : queueTest (places c i j) c l ≡ true
+  -- the test, part by part
+  few : getD l 0 0 ≤ places c i j
   unfolding linkTest
-  opened = w
+  few = items-few (places c i j) c l (both (itemsTest (places c i j) c l) _ w .0)
+
+  passes : (k : ℕ) → k < getD l 0 0 → itemTest c (placeAt 21 l k) ≡ true
+  unfolding linkTest itemsTest itemsPass
+  passes k h = every-at (getD l 0 0) _ k (both (leb (getD l 0 0) (places c i j)) _ (both (itemsTest (places c i j) c l) _ w .0) .1) h
+
+  bytes-place : (k : ℕ) → AreBytes (placeAt 21 l k)
+  bytes-place k = bytes-take 21 (drop (1 + k * 21) l) (bytes-drop (1 + k * 21) l b)
 
   -- what is accepted is the image of the queue that it stands for
   pub link-image-parse : length l ≡ 715 → places c i j ≤ 34 → imageLink (parseLink l) ≡ l
-  link-image-parse = queue-image (places c i j) c l opened b
+  unfolding imageLink parseLink linkTest
+  link-image-parse e most =
+      let h = few in
+      image-parse imageItem 21 item-length 714 parseItem l e (omega arith)
+      (λ k g. item-image-parse c (placeAt 21 l k) (bytes-place k) (simp (length-take, length-drop) (omega arith)) (passes k g))
+      (both (itemsTest (places c i j) c l) _ w .1)
 
   pub link-ranged : places c i j ≤ 34 → RangedLink (parseLink l)
-  link-ranged = queue-ranged (places c i j) c l opened b
+  unfolding itemAt
+  link-ranged most =
+      record {
+        most = omega (arith, parse-count l, few);
+        items = λ (k : ℕ) (g : k < length (parseLink l)). rw (parse-item l k (omega (arith, parse-count l))) (item-ranged (placeAt 21 l k) (bytes-place k));
+      }
 
   -- and that queue is in range
   pub test-fits : linkFits c i j (parseLink l) ≡ true
-  unfolding linkFits
+  unfolding linkFits itemAt
   test-fits =
-      let p = parts (places c i j) c l opened in
       rw (parse-count l)
-      (join (leb (getD l 0 0) (places c i j)) _ (le-leb _ _ (p .0))
-      (every-of (getD l 0 0) (itemFitsAt c (parseLink l)) (queue-fits (places c i j) c l opened b)))
+      (join (leb (getD l 0 0) (places c i j)) _ (le-leb _ _ few)
+      (every-of (getD l 0 0) (itemFitsAt c (parseLink l)) (λ k h. rw (parse-item l k h) (item-fits c (placeAt 21 l k) (bytes-place k) (passes k h)))))
 
 -- ---- what is in range passes
 counts-ranged : (c : Config) → wellMade c ≡ true → (v : List ℕ) → timestampFits c (c .t) v ≡ true → (length v ≡ 8) × ((k : ℕ) → getD v k 0 < 65536)
@@ -363,16 +276,12 @@ module _ (c : Config) (h : wellMade c ≡ true) (i j : ℕ) (q : Queue) (f : lin
 
   -- the image of a queue in range is accepted
   pub fits-test : linkTest c i j (imageLink q) ≡ true
-  unfolding linkTest queueTest
+  unfolding linkTest itemsTest itemsPass imageLink imageQueue
   fits-test =
       let n : ℕ = length q in
       let m : n ≤ 34 = fits-ranged .most in
-      let s : length (n ∷ rows imageItem q) ≡ 1 + n * 21 = omega (arith, items-length q) in
-      let z : drop (1 + n * 21) (imageLink q) ≡ blank (714 - n * 21)
-      = rw (link-form q m) (drop-at (n ∷ rows imageItem q) (blank (714 - n * 21)) (1 + n * 21) s) in
-      rw (link-count q)
+      join (leb n (places c i j) && every n (λ (k : ℕ). itemTest c (placeAt 21 (imageLink q) k))) _
       (join (leb n (places c i j)) _ (le-leb _ _ (fit .0))
-      (join (every n (itemTestAt c (imageLink q))) _
-      (every-of n (itemTestAt c (imageLink q))
-      (λ (k : ℕ) (g : k < n). rw (link-place q k m g) (item-passes c (getD q k resetReq) (fits-ranged .items k g) (every-at n (itemFitsAt c q) k (fit .1) g))))
-      (rw z (zeros-blank (714 - n * 21)))))
+      (every-of n _
+      (λ (k : ℕ) (g : k < n). rw (queue-place imageItem 21 item-length 714 q k resetReq (omega arith) g) (item-passes c (getD q k resetReq) (fits-ranged .items k g) (every-at n (itemFitsAt c q) k (fit .1) g)))))
+      (rw (queue-behind imageItem 21 item-length 714 q (omega arith)) (zeros-blank (714 - n * 21)))

@@ -1,13 +1,13 @@
--- A link's queue as 715 bytes: the count of its items, 34 places of 21 bytes with the items packed from the first, zeros after. Assumes nothing.
-use Prim.Native.Nat.{ℕ, _+_, _*_, _≤_, _<_}
+-- A link's queue as 715 bytes: 34 places of 21 bytes. Assumes nothing.
+use Prim.Native.Nat.{ℕ, _≤_, _<_}
 use mathlib.Core.Path.{_≡_}
 use mathlib.Core.List.{List, [], _∷_, _++_}
 use mathlib.Core.Bool.{Bool, cond, _&&_, _||_}
-use lib.Dec.{eqb, leb}
-use lib.ListN.{length, getD, take, drop}
+use lib.Dec.{eqb}
+use lib.ListN.{length, getD, drop}
 use Rattle.codec.specs.Num.{bytesOf, numAt, numsOf, numsAt}
-use Rattle.codec.specs.Rows.{rows, upto}
-use Rattle.codec.specs.Every.{blank, every, allZero}
+use Rattle.codec.specs.Every.{blank, allZero}
+use Rattle.queue.specs.Queue.{imageQueue, placeAt, parseQueue, itemsPass, behind}
 use Rattle.reset.specs.Config.{Config, places}
 use Rattle.reset.specs.Clock.{vector, timestampFits}
 use Rattle.reset.specs.State.{Item, message, resetReq, resetDone}
@@ -59,34 +59,23 @@ Queue = List (Item vector)
 
 -- its 715 bytes, however long it is
 unfoldable pub imageLink : Queue → List ℕ
-imageLink q = length q ∷ take placesSize (rows imageItem q ++ blank placesSize)
-
--- the 21 bytes of place k
-abbrev pub placeAt : List ℕ → ℕ → List ℕ
-placeAt l k = take itemSize (drop (1 + k * itemSize) l)
+imageLink q = imageQueue imageItem placesSize q
 
 -- the item at place k
 unfoldable pub itemAt : List ℕ → ℕ → Item vector
-itemAt l k = parseItem (placeAt l k)
+itemAt l k = parseItem (placeAt itemSize l k)
 
 -- the queue that 715 bytes stand for
 unfoldable pub parseLink : List ℕ → Queue
-parseLink l = upto (getD l 0 0) (itemAt l)
-
-abbrev pub itemTestAt : Config → List ℕ → ℕ → Bool
-itemTestAt c l k = itemTest c (placeAt l k)
+parseLink l = parseQueue itemSize parseItem l
 
 -- 715 bytes hold at most m items, each in range
 unfoldable pub itemsTest : ℕ → Config → List ℕ → Bool
-itemsTest m c l = leb (getD l 0 0) m && every (getD l 0 0) (itemTestAt c l)
+itemsTest m c l = itemsPass itemSize (itemTest c) m l
 
--- and zeros after the last
-unfoldable pub queueTest : ℕ → Config → List ℕ → Bool
-queueTest m c l = leb (getD l 0 0) m && (every (getD l 0 0) (itemTestAt c l) && allZero (drop (1 + getD l 0 0 * itemSize) l))
-
--- 715 bytes are a queue in range for the link from i to j
+-- 715 bytes are a queue in range for the link from i to j: its items, and zeros after the last
 unfoldable pub linkTest : Config → ℕ → ℕ → List ℕ → Bool
-linkTest c i j l = queueTest (places c i j) c l
+linkTest c i j l = itemsTest (places c i j) c l && allZero (behind itemSize l)
 
 -- n and t alone, all that the test of a queue reads of a configuration
 abbrev pub sized : ℕ → ℕ → Config

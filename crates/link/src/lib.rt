@@ -1,12 +1,13 @@
-// A link's queue in a lent part of 715 bytes: the count of its items, 34 places of 21 bytes, zeros after the last item.
+// A link's queue in a lent part of 715 bytes: 34 places of 21 bytes.
 ghost use mathlib.Core.Path.{_≡_};
 ghost use mathlib.Core.List.{[], _∷_, _++_};
-ghost use Prim.Native.Nat.{_+_, _-_, _<_, _≤_};
+ghost use Prim.Native.Nat.{_<_, _≤_};
 ghost use lib.ListN.{length, drop, getD};
 ghost use lib.Dec.{eqb};
 ghost use mathlib.Core.Bool.{_&&_, _||_};
 ghost use Rattle.codec.specs.Num.{bytesOf, numsOf};
-ghost use Rattle.codec.specs.Every.{blank, allZero};
+ghost use Rattle.codec.specs.Every.{allZero};
+ghost use Rattle.reset.specs.Config.{placesOf};
 ghost use Rattle.reset.specs.Clock.{vector};
 ghost use Rattle.reset.specs.State as state;
 ghost use Rattle.link.specs.Image.{itemSize, mostItems, linkSize, Queue, itemView, imageItem, parseItem, imageLink, itemAt, itemsTest, sized};
@@ -22,6 +23,13 @@ pub const MESSAGE: u8 = 1;
 pub const RESET_REQ: u8 = 2;
 
 pub const RESET_DONE: u8 = 3;
+
+// How many items a link with a limit holds at most.
+pub fn places(limit: u8) -> u32
+    ensures { λ r. ⌜ (r ≡ placesOf limit) × (r < 258) ⌝ }
+{
+    (limit as u32) + 2
+}
 
 // Kind 1 is a message, 2 reset_req, 3 reset_done; the register number and the counts are a message's.
 pub struct Item {
@@ -78,21 +86,19 @@ fn is_control(part: &[u8]) -> bool
 
 // The part holds at most `places` items, each in range. What stands behind them is not looked at. The greatest counts of all
 // messages are tested, once.
-pub fn items_fit(places: u8, n: u8, t: u16, part: &[u8]) -> bool
+pub fn items_fit(places: u32, n: u8, t: u16, part: &[u8]) -> bool
     requires { ⌜ (length (now part) ≡ linkSize) × (places ≤ mostItems) ⌝ }
     ensures { λ r. ⌜ r ≡ itemsTest places (sized n t) (now (part .entry)) ⌝ }
 {
     let b = part[0];
-    if places < b {
+    if places < b as u32 {
         return false;
     }
     let count = b as usize;
     let mut most = [0u16; 8];
     let mut k = 0;
     while k < count {
-        let o = 1 + k * ITEM_SIZE;
-        let e = o + ITEM_SIZE;
-        let item = &part[o..e];
+        let item = queue::place(part, ITEM_SIZE, k);
         if item[0] == MESSAGE {
             let more = clock::merge(most, codec::get_row(item, 5));
             most = more;
@@ -112,7 +118,7 @@ pub fn first(part: &[u8]) -> Item
     requires { ⌜ length (now part) ≡ linkSize ⌝ }
     ensures { λ r. ⌜ itemView r ≡ itemAt (now (part .entry)) 0 ⌝ }
 {
-    load(&part[1..22])
+    load(queue::place(part, ITEM_SIZE, 0))
 }
 
 // Puts an item behind the others.
@@ -120,45 +126,15 @@ pub fn push(part: &mut [u8], x: Item)
     requires { ⌜ (length (now part) ≡ linkSize) × (getD (now part) 0 0 < mostItems) ⌝ }
     ensures { λ _. ⌜ ((q : Queue) → now (part .entry) ≡ imageLink q → now (part .exit) ≡ imageLink (q ++ (itemView x ∷ []))) ⌝ }
 {
-    let b = part[0];
-    let count = b as usize;
-    let o = 1 + count * ITEM_SIZE;
-    let e = o + ITEM_SIZE;
-    store(&mut part[o..e], x);
-    part[0] = b + 1;
+    let mut item = [0u8; 21];
+    store(&mut item, x);
+    queue::push(part, ITEM_SIZE, &item);
 }
 
-// What stands k places on is moved to the front; the last k places keep what they had.
-fn shift(d: &mut [u8], k: usize)
-    requires { ⌜ k ≤ length (now d) ⌝ }
-    ensures { λ _. ⌜ now (d .exit) ≡ drop k (now (d .entry)) ++ drop (length (now (d .entry)) - k) (now (d .entry)) ⌝ }
-{
-    let n = d.len() - k;
-    let mut i = 0;
-    while i < n {
-        d[i] = d[i + k];
-        i += 1;
-    }
-}
-
-// The first k are taken off, and zeros follow.
-fn drop_front(d: &mut [u8], k: usize)
-    requires { ⌜ k ≤ length (now d) ⌝ }
-    ensures { λ _. ⌜ now (d .exit) ≡ drop k (now (d .entry)) ++ blank k ⌝ }
-{
-    let n = d.len() - k;
-    shift(d, k);
-    codec::put_zeros(d, n, k);
-}
-
-// Takes the first item off; only the places in use are moved.
+// Takes the first item off.
 pub fn pop(part: &mut [u8])
     requires { ⌜ (length (now part) ≡ linkSize) × (0 < getD (now part) 0 0) × (getD (now part) 0 0 ≤ mostItems) ⌝ }
     ensures { λ _. ⌜ ((x : state.Item vector) (q : Queue) → now (part .entry) ≡ imageLink (x ∷ q) → now (part .exit) ≡ imageLink q) ⌝ }
 {
-    let b = part[0];
-    let count = b as usize;
-    let e = 1 + count * ITEM_SIZE;
-    drop_front(&mut part[1..e], ITEM_SIZE);
-    part[0] = b - 1;
+    queue::pop(part, ITEM_SIZE);
 }

@@ -34,8 +34,11 @@ unfoldable pub allowanceAt : Config → ℕ → ℕ → ℕ
 allowanceAt c p i = getD (c .allowances) i 0
 
 -- how many items a link can hold: two more than its limit; none where there is no link
+abbrev pub placesOf : ℕ → ℕ
+placesOf l = l + 2
+
 unfoldable pub places : Config → ℕ → ℕ → ℕ
-places c i j = cond (neighbours c i j) (limit (c .limits) i j + 2) 0
+places c i j = cond (neighbours c i j) (placesOf (limit (c .limits) i j)) 0
 
 -- ---- well made: the ranges of the fields, and their number
 -- n from 1 to 8, t from 1 to 65,535

@@ -9,7 +9,7 @@ use lib.ListN.{length, getD}
 use borrow.Author.Tests.{leb-true}
 use Rattle.codec.proofs.EveryLaws.{both, every-at, every-same}
 use Rattle.reset.specs.Reach.{limit, linked}
-use Rattle.reset.specs.Config.{Config, neighbours, places}
+use Rattle.reset.specs.Config.{Config, neighbours, places, placesOf}
 use Rattle.reset.specs.Clock.{vector}
 use Rattle.reset.specs.State.{Station, State, linkAt, setStation}
 use Rattle.reset.proofs.Views.{link-set-station}
@@ -26,7 +26,7 @@ use Rattle.area.specs.Layout.{image, linkBytes, configAt, stateAt}
 use Rattle.area_edit.specs.Room.{Roomy}
 use Rattle.steps.specs.Answers.{steppedOf, modeCode}
 use Rattle.steps.specs.Does.{Does}
-use Rattle.steps.specs.Room.{placesOf, roomBytes, items, inBoundsAfter}
+use Rattle.steps.specs.Room.{roomBytes, items, inBoundsAfter}
 use Rattle.steps.specs.Taking.{Settles}
 use Rattle.steps.specs.declared.answer.Stepped.{Stepped}
 use Rattle.steps.proofs.Read.{Passed, does, made, count-is}

@@ -6,13 +6,10 @@ use lib.Dec.{eqb, leb}
 use lib.ListN.{length, getD}
 use Rattle.clock.specs.Range.{lastPhase}
 use Rattle.codec.specs.Every.{every}
+use Rattle.reset.specs.Config.{placesOf}
 use Rattle.reset_rules.specs.Slots.{controlOf}
 use Rattle.reset_rules.specs.declared.Turned.{Turned}
 use Rattle.area.specs.Layout.{linkBytes}
-
--- how many items a link with a limit holds at most
-abbrev pub placesOf : ℕ → ℕ
-placesOf l = l + 2
 
 -- every link out of i that has a limit in the row has room for k items more
 unfoldable pub roomBytes : List ℕ → List ℕ → ℕ → ℕ → Bool

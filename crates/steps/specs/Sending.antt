@@ -6,13 +6,12 @@ use mathlib.Core.Bool.{cond}
 use lib.Dec.{leb}
 use lib.ListN.{getD}
 use Rattle.clock.specs.Timestamp.{tick}
-use Rattle.reset.specs.Config.{Config}
+use Rattle.reset.specs.Config.{Config, placesOf}
 use Rattle.reset.specs.Clock.{vector}
 use Rattle.reset.specs.State.{message, Station, State, doneSeen, sentTo, setStation, putOn}
 use Rattle.reset.specs.Steps.{maySend, sending, entryOf, entry}
 use Rattle.area.specs.Layout.{image}
 use Rattle.steps.specs.Answers.{steppedOf}
-use Rattle.steps.specs.Room.{placesOf}
 use Rattle.steps.specs.declared.answer.Stepped.{Stepped}
 
 -- the refusal of a send from i, whose record is x, to its neighbour j, with the ceiling t, the link's limit and the items on it: 5, 6, 9, or 0 for none

@@ -70,7 +70,7 @@ fn send_refusal(s: Station, t: u16, limit: u8, count: u8, i: usize, j: usize) ->
     if t <= counts[i] {
         return refusals::BEYOND_BOUND;
     }
-    if turned::places(limit) <= config::wide(count) {
+    if link::places(limit) <= config::wide(count) {
         return refusals::BEYOND_BOUND;
     }
     0

@@ -5,7 +5,7 @@ ghost use lib.ListN.{length};
 ghost use Rattle.area.specs.Layout.{areaSize};
 ghost use Rattle.reset_rules.specs.Slots.{controlOf};
 ghost use Rattle.area_edit.specs.Room.{Roomy};
-ghost use Rattle.steps.specs.Room.{placesOf, roomBytes, items as Items, inBoundsAfter};
+ghost use Rattle.steps.specs.Room.{roomBytes, items as Items, inBoundsAfter};
 ghost use Rattle.steps.specs.Taking.{Settles};
 use crate::answer;
 use crate::answer::Stepped;
@@ -13,13 +13,6 @@ use crate::config;
 use area_edit::controls;
 use area_edit::parts;
 use reset_rules::Turned;
-
-// How many items a link with a limit holds at most.
-pub fn places(limit: u8) -> u32
-    ensures { λ r. ⌜ (r ≡ placesOf limit) × (r < 258) ⌝ }
-{
-    config::wide(limit) + 2
-}
 
 // One more where there is a control item.
 fn weight(kind: u8) -> u32
@@ -41,7 +34,7 @@ fn room(area: &[u8], row: [u8; 8], i: usize, k: u32) -> bool
     while j < 8 {
         let count = config::wide(parts::count_at(area, i, j));
         let limit = row[j];
-        ok = ok & ((limit == 0) | (count + k <= places(limit)));
+        ok = ok & ((limit == 0) | (count + k <= link::places(limit)));
         j += 1;
     }
     ok

@@ -9,7 +9,7 @@ use borrow.Author.Tests.{eq-eqb, ne-eqb}
 use Rattle.header.specs.Header.{tableAt}
 use Rattle.header.proofs.Laws.{table-at}
 use Rattle.reset.specs.Reach.{limit, linked}
-use Rattle.reset.specs.Config.{neighbours, places, wellMade}
+use Rattle.reset.specs.Config.{neighbours, places, placesOf, wellMade}
 use Rattle.reset.proofs.ConfigLaws.{shape}
 use Rattle.rules.specs.Setup.{blockConfig}
 use borrow.Author.Needs.{needs}
@@ -29,20 +29,18 @@ small l k h w = rw (← limit-at l k h) (shape (blockConfig l) w .limit32 (k / 8
 returns : tie.Need-returns
 unfolding places neighbours linked
 returns c =
-    let a = c .before .before .args in
+    let a = c .before .before .before .args in
     (rw (limit-at (now (a .head)) (a .k) (omega arith), eq-eqb _ 0 (c .if1 .taken)), omega arith)
-
-add-result : tie.Need-add-result
-add-result c =
-    let a = c .before .before .args in
-    omega (arith, small (now (a .head)) (a .k) (omega arith) (c .before .before .pre .2))
 
 returns-2 : tie.Need-returns-2
 unfolding places neighbours linked
 returns-2 c =
-    let a = c .before .before .args in
-    (rw (limit-at (now (a .head)) (a .k) (omega arith), ne-eqb _ 0 (c .if1 .left)), omega (arith, small (now (a .head)) (a .k) (omega arith) (c .before .before .pre .2)))
+    let b = c .before .before .before .before in
+    let l = now (b .args .head) in
+    let k = b .args .k in
+    let e : c .places .result ≡ placesOf (getD l (32 + k) 0) = c .places .ensures .0 in
+    (rw (limit-at l k (omega arith), ne-eqb _ 0 (c .before .if1 .left)) e, omega (arith, small l k (omega arith) (b .pre .2)))
 
 pub places-of-spec : {M : Type 1} → statement M
 places-of-spec =
-    tie.close (tie.spec (λ c. search needs) (λ c. search needs) returns add-result returns-2)
+    tie.close (tie.spec (λ c. search needs) (λ c. search needs) returns (λ c κs. search needs) returns-2)

@@ -8,7 +8,8 @@ use Rattle.codec.specs.Every.{every}
 use Rattle.codec.proofs.EveryLaws.{every-none}
 use Rattle.codec.proofs.FlagLaws.{every-turn}
 use Rattle.area.specs.Layout.{linkBytes}
-use Rattle.steps.specs.Room.{placesOf, roomBytes}
+use Rattle.reset.specs.Config.{placesOf}
+use Rattle.steps.specs.Room.{roomBytes}
 use borrow.Author.Needs.{needs}
 use Rattle.steps.proofs.turned.room.Statement.{statement}
 use Rattle.steps.proofs.turned.room.Tie as tie

@@ -6,8 +6,8 @@ use denote.Ref.{now}
 use lib.ListN.{length, take, drop, getD, length-set, length-drop}
 use lib.Seq.{take-all}
 use Rattle.codec.proofs.CopyLaws.{copy-turn, shift-ahead}
-use Rattle.link.proofs.shift.Statement.{statement}
-use Rattle.link.proofs.shift.Tie as tie
+use Rattle.queue.proofs.shift.Statement.{statement}
+use Rattle.queue.proofs.shift.Tie as tie
 
 abbrev Inv-loop : tie.InvT-loop
 Inv-loop d₀ k n i₀ d i = (i ≤ n) × (n + k ≡ length d₀) × (length d ≡ length d₀) × (d ≡ take i (drop k d₀) ++ drop i d₀)

@@ -8,8 +8,8 @@ use lib.Seq.{take-at}
 use Rattle.codec.specs.Every.{blank}
 use Rattle.codec.proofs.BlankLaws.{blank-length}
 use borrow.Author.Needs.{needs}
-use Rattle.link.proofs.drop_front.Statement.{statement}
-use Rattle.link.proofs.drop_front.Tie as tie
+use Rattle.queue.proofs.drop_front.Statement.{statement}
+use Rattle.queue.proofs.drop_front.Tie as tie
 
 returns : tie.Need-returns
 returns c =
