@@ -96,7 +96,7 @@ fn run(name: &[u8], k: u64, n: u8, t: u16, allowances: [u16; 8], limits: [[u8; 8
     say(
         name,
         k,
-        rules::network::network_rules(n, t, allowances, limits),
+        rules::network::setup_fits(Header { n, t, allowances }, limits),
     );
 }
 

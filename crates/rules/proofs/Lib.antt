@@ -1,4 +1,5 @@
 pub mod SpreadLaws
 pub mod SumLaws
+pub mod TableLaws
 pub mod Laws
 pub mod EarlierLaws

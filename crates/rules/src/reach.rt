@@ -1,8 +1,8 @@
 // Which stations can be reached from station 0, by spreading over neighbours.
 ghost use mathlib.Core.Path.{_≡_};
-ghost use mathlib.Core.Bool.{true};
-ghost use Prim.Native.Nat.{ℕ, _<_, _≤_};
-ghost use Rattle.reset.specs.Reach.{linked, apart, joins, first, reached, everyReached};
+ghost use Prim.Native.Nat.{_<_, _≤_};
+ghost use Rattle.reset.specs.Reach.{apart, joins, first, reached, everyReached};
+ghost use Rattle.rules.specs.Table.{hasEarlier, inOrder};
 
 // No reached station has a link to j.
 fn is_apart(limits: [[u8; 8]; 8], seen: [u8; 8], j: usize) -> bool
@@ -21,24 +21,13 @@ fn is_apart(limits: [[u8; 8]; 8], seen: [u8; 8], j: usize) -> bool
     true
 }
 
-// Station j is not reached, and a reached one has a link to it.
-fn does_join(limits: [[u8; 8]; 8], seen: [u8; 8], j: usize) -> bool
-    requires { ⌜ j < 8 ⌝ }
-    ensures { λ r. ⌜ r ≡ joins limits seen j ⌝ }
-{
-    if seen[j] != 0 {
-        return false;
-    }
-    !is_apart(limits, seen, j)
-}
-
 // The first station that joins, or 8.
 fn next(limits: [[u8; 8]; 8], seen: [u8; 8]) -> usize
     ensures { λ r. ⌜ r ≡ first 8 (joins limits seen) ⌝ }
 {
     let mut j = 0;
     while j < 8 {
-        if does_join(limits, seen, j) {
+        if (seen[j] == 0) & !is_apart(limits, seen, j) {
             return j;
         }
         j += 1;
@@ -62,7 +51,7 @@ fn spread(limits: [[u8; 8]; 8], seen: [u8; 8]) -> [u8; 8]
 // A station before j has a link to it.
 fn has_earlier(limits: [[u8; 8]; 8], j: usize) -> bool
     requires { ⌜ j < 8 ⌝ }
-    ensures { λ r. ⌜ (r ≡ true → (i : ℕ) × (i < j) × (linked limits i j ≡ true)) ⌝ }
+    ensures { λ r. ⌜ r ≡ hasEarlier limits j ⌝ }
 {
     let mut i = 0;
     while i < j {
@@ -78,7 +67,7 @@ fn has_earlier(limits: [[u8; 8]; 8], j: usize) -> bool
 // Every station below n but 0 has a link from one before it: so it is reached, and nothing has to spread.
 fn in_order(n: u8, limits: [[u8; 8]; 8]) -> bool
     requires { ⌜ n ≤ 8 ⌝ }
-    ensures { λ r. ⌜ (r ≡ true → everyReached n limits ≡ true) ⌝ }
+    ensures { λ r. ⌜ r ≡ inOrder n limits ⌝ }
 {
     let top = n as usize;
     let mut j = 1;

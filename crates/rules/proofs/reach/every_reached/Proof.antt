@@ -1,5 +1,5 @@
 use Prim.Native.Nat.{_-_, _≤_}
-use mathlib.Core.Path.{_≡_, sym, ap}
+use mathlib.Core.Path.{_≡_, _∙_, sym, ap}
 use mathlib.Core.Bool.{true, not}
 use native.Mathlib.Omega.{arith}
 use borrow.Author.Needs.{needs}
@@ -7,6 +7,7 @@ use borrow.Author.Tests.{eq-eqb, ne-eqb}
 use Rattle.codec.specs.Every.{every}
 use Rattle.codec.proofs.EveryLaws.{every-none, every-more, every-fails}
 use Rattle.reset.specs.Reach.{isSeen, everyReached}
+use Rattle.rules.proofs.EarlierLaws.{order-reached}
 use Rattle.rules.proofs.SpreadLaws.{not-above}
 use Rattle.rules.proofs.reach.every_reached.Statement.{statement}
 use Rattle.rules.proofs.reach.every_reached.Tie as tie
@@ -16,6 +17,11 @@ Inv-loop n top seen i₀ i = (i ≤ top) × (top ≤ 8) × (every i (isSeen seen
 
 abbrev μ-loop : tie.MeasureT-loop
 μ-loop n top seen i₀ i = top - i
+
+returns-2 : tie.Need-returns-2 Inv-loop μ-loop
+returns-2 c =
+    let s = c .before .before .before in
+    sym (order-reached (s .args .limits) _ (s .good .1 .0) (s .args .n) (sym (c .before .in-order .ensures) ∙ c .if2 .taken))
 
 returns-3 : tie.Need-returns-3 Inv-loop μ-loop
 unfolding everyReached
@@ -40,6 +46,6 @@ pub every-reached-spec : {M : Type 1} → statement M
 every-reached-spec =
     tie.close
     (tie.spec Inv-loop μ-loop (λ c. sym (not-above _ _ (c .if1 .taken))) (λ c κs. search needs)
-    (λ c. sym (c .before .in-order .ensures (c .if2 .taken))) (λ c κs. search needs)
+    returns-2 (λ c κs. search needs)
     (λ c. (omega arith, omega arith, every-none _)) (λ c. search needs) returns-3 (λ c. search needs)
     (λ c. search needs) loop-again returns-4)

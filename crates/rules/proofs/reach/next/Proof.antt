@@ -1,6 +1,8 @@
 use Prim.Native.Nat.{ℕ, _-_, _≤_, _<_}
 use mathlib.Core.Path.{_≡_, _∙_, sym}
-use mathlib.Core.Bool.{false}
+use mathlib.Core.Bool.{false, not, _&&_}
+use lib.Dec.{eqb}
+use lib.ListN.{getD}
 use native.Mathlib.Omega.{arith}
 use borrow.Author.Needs.{needs}
 use borrow.Author.Count.{below-none, below-more}
@@ -15,11 +17,19 @@ Inv-loop m seen j₀ j = (j ≤ 8) × ((k : ℕ) → k < j → joins m seen k �
 abbrev μ-loop : tie.MeasureT-loop
 μ-loop m seen j₀ j = 8 - j
 
+-- the test of a station is that it joins
+tested : (c : tie.After-is-apart Inv-loop μ-loop)
+    → let a = c .before .before .before .args in
+    let j = c .before .before .loop .j in
+    joins (a .limits) (a .t2) j ≡ (eqb (getD (a .t2) j 0) 0 && not (c .is-apart .result))
+unfolding joins
+tested c = rw (c .is-apart .ensures)
+
 returns : tie.Need-returns Inv-loop μ-loop
-returns c = let l = c .before .before .before .loop in sym (first-at 8 _ (l .j) (omega arith) (l .inv .1) (sym (c .before .does-join .ensures) ∙ c .if1 .taken))
+returns c = let l = c .before .before .before .loop in sym (first-at 8 _ (l .j) (omega arith) (l .inv .1) (tested (c .before) ∙ c .if1 .taken))
 
 loop-again : tie.Need-loop-again Inv-loop μ-loop
-loop-again c = let l = c .before .before .before .loop in (omega arith, below-more _ (l .j) (l .inv .1) (sym (c .before .does-join .ensures) ∙ c .if1 .left))
+loop-again c = let l = c .before .before .before .loop in (omega arith, below-more _ (l .j) (l .inv .1) (tested (c .before) ∙ c .if1 .left))
 
 returns-2 : tie.Need-returns-2 Inv-loop μ-loop
 returns-2 c =
@@ -31,5 +41,5 @@ returns-2 c =
 pub next-spec : {M : Type 1} → statement M
 next-spec =
     tie.close
-    (tie.spec Inv-loop μ-loop (λ c. (omega arith, below-none _)) (λ c κs. search needs) returns (λ c. search needs)
+    (tie.spec Inv-loop μ-loop (λ c. (omega arith, below-none _)) (λ c. search needs) (λ c κs. search needs) returns (λ c. search needs)
     (λ c. search needs) loop-again returns-2)
