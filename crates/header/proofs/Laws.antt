@@ -79,16 +79,11 @@ header-small l h =
     leb-true _ _ (both (leb (parseHeader l .n) 8) _ (a .1) .0)
 
 -- ---- the table of limits
-bytes-at-at : (n : ℕ) (l : List ℕ) (at j : ℕ) → j < n → getD (bytesAt n l at) j 0 ≡ getD l (at + j) 0
-bytes-at-at zero l at j h = absurd (omega arith)
-bytes-at-at (suc n) l at zero h = rw add-zero
-bytes-at-at (suc n) l at (suc j) h = bytes-at-at n l (at + 1) j (omega arith) ∙ ap (λ (k : ℕ). getD l k 0) (omega arith)
-
 -- row i, place j of a table in bytes
 pub table-at : (n : ℕ) (l : List ℕ) (at i j : ℕ) → i < n → j < 8 → getD (getD (tableAt n l at) i []) j 0 ≡ getD l (at + (i * 8 + j)) 0
 unfolding tableAt
 table-at zero l at i j h g = absurd (omega arith)
-table-at (suc n) l at zero j h g = bytes-at-at 8 l at j g ∙ ap (λ (k : ℕ). getD l k 0) (omega arith)
+table-at (suc n) l at zero j h g = upto-at 8 (λ (k : ℕ). getD l (at + k) 0) j 0 g ∙ ap (λ (k : ℕ). getD l k 0) (omega arith)
 table-at (suc n) l at (suc i) j h g = table-at n l (at + 8) i j (omega arith) g ∙ ap (λ (k : ℕ). getD l k 0) (omega arith)
 
 pub table-rows : (n : ℕ) (l : List ℕ) (at : ℕ) → length (tableAt n l at) ≡ n
@@ -99,7 +94,7 @@ table-rows (suc n) l at = ap suc (table-rows n l (at + 8))
 pub table-row : (n : ℕ) (l : List ℕ) (at i : ℕ) → i < n → length (getD (tableAt n l at) i []) ≡ 8
 unfolding tableAt
 table-row zero l at i h = absurd (omega arith)
-table-row (suc n) l at zero h = refl
+table-row (suc n) l at zero h = upto-length 8 _
 table-row (suc n) l at (suc i) h = table-row n l (at + 8) i (omega arith)
 
 -- the limits of a table in bytes, byte by byte

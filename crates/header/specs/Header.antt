@@ -28,8 +28,7 @@ headerFits h m = leb 1 (h .n) && (leb (h .n) 8 && (leb 1 (h .t) && limitsInRange
 -- ---- the block
 -- n bytes from `at` on
 abbrev pub bytesAt : ℕ → List ℕ → ℕ → List ℕ
-bytesAt zero l at = []
-bytesAt (suc n) l at = getD l at 0 ∷ bytesAt n l (at + 1)
+bytesAt n l at = upto n (λ (j : ℕ). getD l (at + j) 0)
 
 -- n rows of eight bytes from `at` on
 unfoldable pub tableAt : ℕ → List ℕ → ℕ → List (List ℕ)

@@ -55,18 +55,21 @@ fn header_fits(h: Header, limits: [[u8; 8]; 8]) -> bool
     (1 <= h.n) & ((h.n <= 8) & ((1 <= h.t) & limits_fit(limits)))
 }
 
-fn bytes_at(s: &[u8], at: usize) -> [u8; 8]
+// Eight bytes, from a place on.
+pub fn bytes_at(s: &[u8], at: usize) -> [u8; 8]
     requires { ⌜ at + 8 ≤ length (now s) ⌝ }
     ensures { λ r. ⌜ r ≡ bytesAt 8 (now (s .entry)) at ⌝ }
 {
-    let b = at + 1;
-    let c = b + 1;
-    let d = c + 1;
-    let e = d + 1;
-    let f = e + 1;
-    let g = f + 1;
-    let h = g + 1;
-    [s[at], s[b], s[c], s[d], s[e], s[f], s[g], s[h]]
+    [
+        s[at],
+        s[at + 1],
+        s[at + 2],
+        s[at + 3],
+        s[at + 4],
+        s[at + 5],
+        s[at + 6],
+        s[at + 7],
+    ]
 }
 
 // Eight rows of eight limits, from a place on.

@@ -29,6 +29,11 @@ pub sent-length : (l : List ℕ) → length (sentOf l) ≡ 8
 unfolding sentOf
 sent-length l = upto-length 8 _
 
+-- of eight they are the bytes themselves
+pub sent-is : (l : List ℕ) → length l ≡ 8 → sentOf l ≡ l
+unfolding sentOf
+sent-is l e = upto-is 8 _ l 0 e (λ j h. refl)
+
 pub marks-length : (l : List Bool) → length (marksOf l) ≡ 8
 unfolding marksOf
 marks-length l = upto-length 8 _

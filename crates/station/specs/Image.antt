@@ -8,6 +8,7 @@ use lib.Dec.{eqb}
 use lib.ListN.{length, getD}
 use Rattle.codec.specs.Num.{bytesOf, numAt, numsOf, numsAt}
 use Rattle.codec.specs.Rows.{upto}
+use Rattle.header.specs.Header.{bytesAt}
 use Rattle.reset.specs.Clock.{vector}
 use Rattle.reset.specs.State.{Mode, normal, mute, standBy, Station}
 
@@ -57,7 +58,7 @@ parseStation l =
       mode = modeOf (getD l 46 0);
       phase = numAt 4 l 40;
       own = numAt 2 l 44;
-      sent = upto 8 (byteAt l 16);
+      sent = bytesAt 8 l 16;
       reqs = upto 8 (markAt l 24);
       dones = upto 8 (markAt l 32);
     }

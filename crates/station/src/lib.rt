@@ -12,7 +12,7 @@ ghost use Rattle.clock.specs.Range.{lastPhase, countsFit};
 ghost use Rattle.rules.specs.Setup.{blockConfig};
 ghost use Rattle.station.specs.Test.{markBound, sentWithinAt, marksWithinAt, stationTest};
 ghost use Rattle.station.specs.View.{modeView, stationView};
-ghost use Rattle.station.specs.Image.{stationSize, byteAt, markAt, modeOf, modeByte, markByte, sentOf, marksOf, parseStation, imageStation};
+ghost use Rattle.station.specs.Image.{stationSize, markAt, modeOf, modeByte, markByte, sentOf, marksOf, parseStation, imageStation};
 
 // A record in bytes.
 pub const SIZE: usize = 47;
@@ -44,27 +44,11 @@ fn mode_of(b: u8) -> Mode
     }
 }
 
-fn bytes_at(part: &[u8], at: usize) -> [u8; 8]
-    requires { ⌜ at + 8 ≤ length (now part) ⌝ }
-    ensures { λ r. ⌜ r ≡ upto 8 (byteAt (now (part .entry)) at) ⌝ }
-{
-    [
-        part[at],
-        part[at + 1],
-        part[at + 2],
-        part[at + 3],
-        part[at + 4],
-        part[at + 5],
-        part[at + 6],
-        part[at + 7],
-    ]
-}
-
 fn marks_at(part: &[u8], at: usize) -> [bool; 8]
     requires { ⌜ at + 8 ≤ length (now part) ⌝ }
     ensures { λ r. ⌜ r ≡ upto 8 (markAt (now (part .entry)) at) ⌝ }
 {
-    let b = bytes_at(part, at);
+    let b = header::bytes_at(part, at);
     [
         b[0] != 0,
         b[1] != 0,
@@ -83,7 +67,7 @@ pub fn load(part: &[u8]) -> Station
     ensures { λ r. ⌜ stationView r ≡ parseStation (now (part .entry)) ⌝ }
 {
     let counts = codec::get_row(part, 0);
-    let sent = bytes_at(part, 16);
+    let sent = header::bytes_at(part, 16);
     let reqs = marks_at(part, 24);
     let dones = marks_at(part, 32);
     let mode = mode_of(part[46]);
@@ -130,11 +114,7 @@ fn put_sent(part: &mut [u8], sent: [u8; 8])
     requires { ⌜ length (now part) ≡ stationSize ⌝ }
     ensures { λ _. ⌜ now (part .exit) ≡ splice (now (part .entry)) 16 (sentOf sent) ⌝ }
 {
-    let mut j = 0;
-    while j < 8 {
-        part[16 + j] = sent[j];
-        j += 1;
-    }
+    codec::put_bytes(part, 16, &sent);
 }
 
 // Makes a part the image of a record.

@@ -8,6 +8,7 @@ use lib.Dec.{eqb, ltb}
 use lib.ListN.{length}
 use borrow.Author.Tests.{ne-eqb, eq-eqb}
 use Rattle.codec.specs.Every.{every, blank}
+use Rattle.codec.specs.Rows.{upto}
 use Rattle.codec.specs.Splice.{splice}
 use Rattle.codec.specs.Written.{Written, wrote}
 use Rattle.codec.proofs.BlankLaws.{blank-length}
@@ -110,7 +111,7 @@ abbrev setting : Run
 setting = record { stage = Setting; n = 2; t = 7; allowances = pair .allowances; number = 0 }
 
 table-is : tableAt 8 block 32 ≡ pair .limits
-unfolding limitSet blank tableAt
+unfolding limitSet blank tableAt upto
 table-is = refl
 
 block-long : length block ≡ 512

@@ -1,8 +1,8 @@
 use native.Mathlib.Nat.{add-zero}
 use Rattle.codec.specs.Rows.{upto}
 use borrow.Author.Needs.{needs}
-use Rattle.station.proofs.bytes_at.Statement.{statement}
-use Rattle.station.proofs.bytes_at.Tie as tie
+use Rattle.header.proofs.bytes_at.Statement.{statement}
+use Rattle.header.proofs.bytes_at.Tie as tie
 
 returns : tie.Need-returns
 unfolding upto
