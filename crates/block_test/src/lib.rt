@@ -71,7 +71,7 @@ fn limit(head: &[u8], kind: usize, s: usize, p: usize) -> u8
     head[32 + (p * 8 + s)]
 }
 
-// The records of a kind with peer p, one for each station. A row at a time, which the compiler vectorises.
+// The records of a kind with peer p, one for each station.
 fn fill(r: &mut [u32; 256], head: &[u8], top: usize, kind: usize, p: usize)
     requires { ⌜ (length (now r) ≡ 256) × (length (now head) ≡ 512) × (2 ≤ kind) × (kind ≤ 3) × (p < 8) ⌝ }
     ensures { λ _. ⌜ Row top (tableAt 8 (now (head .entry)) 32) (kind * 8 + p) 8 (now (r .entry)) (now (r .exit)) ⌝ }
