@@ -5,6 +5,7 @@ use mathlib.Core.Bool.{Bool, _&&_, cond}
 use lib.Dec.{eqb, ltb}
 use lib.ListN.{length, take, drop}
 use Rattle.codec.specs.Every.{every}
+use Rattle.checksum.specs.Check.{blockSize}
 use Rattle.header.specs.Header.{parseHeader, tableAt, wellMadeHeader}
 use Rattle.header.specs.declared.Header.{Header}
 use Rattle.entries.specs.Starts.{recordStart}
@@ -16,11 +17,11 @@ use Rattle.archive.specs.declared.Counted.the-variants.{Count, Refused}
 -- ---- the blocks
 -- entries block b of an archive, from 0: it bears number b + 1
 unfoldable pub blockOf : List ℕ → ℕ → List ℕ
-blockOf a b = take 512 (drop ((b + 1) * 512) a)
+blockOf a b = take blockSize (drop ((b + 1) * blockSize) a)
 
 -- how many there are
 unfoldable pub blocks : List ℕ → ℕ
-blocks a = length a / 512 - 1
+blocks a = length a / blockSize - 1
 
 -- n entries blocks behind the header, numbered 1, 2, 3 ..; only the last may have under 15 records
 unfoldable pub blocksFit : Header → List (List ℕ) → List ℕ → ℕ → Bool
@@ -29,8 +30,8 @@ blocksFit h m a n = every n (λ (b : ℕ). blockFits h m (b + 1) (eqb (b + 1) n)
 -- the archive test: whole blocks, a header, and entries blocks
 unfoldable pub archiveTest : List ℕ → Bool
 archiveTest a =
-    eqb (length a % 512) 0
-    && (wellMadeHeader (take 512 a) && blocksFit (parseHeader (take 512 a)) (tableAt 8 (take 512 a) 32) a (blocks a))
+    eqb (length a % blockSize) 0
+    && (wellMadeHeader (take blockSize a) && blocksFit (parseHeader (take blockSize a)) (tableAt 8 (take blockSize a) 32) a (blocks a))
 
 -- ---- the records, numbered from 0
 unfoldable pub records : List ℕ → ℕ
@@ -38,7 +39,7 @@ records a = cond (eqb (blocks a) 0) 0 ((blocks a - 1) * 15 + countOf (blockOf a 
 
 -- the 32 bytes of record k, where the archive has its block; else none
 unfoldable pub recordAt : List ℕ → ℕ → List ℕ
-recordAt a k = cond (ltb (k / 15 + 1) (length a / 512)) (take 32 (drop ((k / 15 + 1) * 512 + recordStart (k % 15)) a)) []
+recordAt a k = cond (ltb (k / 15 + 1) (length a / blockSize)) (take 32 (drop ((k / 15 + 1) * blockSize + recordStart (k % 15)) a)) []
 
 -- ---- the calls
 -- how many records, or 1 for bytes that are no archive

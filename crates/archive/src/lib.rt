@@ -21,8 +21,8 @@ fn blocks_fit(a: &[u8], head: &[u8], known: &[u32; 256], n: usize) -> bool
     let mut b = 0;
     while b < n {
         let next = b + 1;
-        let o = next * 512;
-        let e = o + 512;
+        let o = next * checksum::BLOCK;
+        let e = o + checksum::BLOCK;
         if !block_test::block_fits(head, known, next, next == n, &a[o..e]) {
             return false;
         }
@@ -35,18 +35,18 @@ fn blocks_fit(a: &[u8], head: &[u8], known: &[u32; 256], n: usize) -> bool
 pub fn test(a: &[u8]) -> bool
     ensures { λ r. ⌜ r ≡ archiveTest (now (a .entry)) ⌝ }
 {
-    if a.len() % 512 != 0 {
+    if a.len() % checksum::BLOCK != 0 {
         return false;
     }
-    if a.len() < 512 {
+    if a.len() < checksum::BLOCK {
         return false;
     }
-    let head = &a[0..512];
+    let head = &a[0..checksum::BLOCK];
     if !header::well_made(head) {
         return false;
     }
     // A header alone needs no table.
-    let n = a.len() / 512 - 1;
+    let n = a.len() / checksum::BLOCK - 1;
     if n == 0 {
         return true;
     }
@@ -59,12 +59,12 @@ pub fn records(a: &[u8]) -> usize
     requires { ⌜ archiveTest (now a) ≡ true ⌝ }
     ensures { λ r. ⌜ r ≡ recordsOf (now (a .entry)) ⌝ }
 {
-    let n = a.len() / 512 - 1;
+    let n = a.len() / checksum::BLOCK - 1;
     if n == 0 {
         return 0;
     }
-    let o = n * 512;
-    let e = o + 512;
+    let o = n * checksum::BLOCK;
+    let e = o + checksum::BLOCK;
     (n - 1) * 15 + entries::count_of(&a[o..e])
 }
 
@@ -73,10 +73,10 @@ pub fn record_at<'a>(a: &'a [u8], k: usize) -> &'a [u8]
     ensures { λ r. ⌜ now r ≡ recordAt (now (a .entry)) k ⌝ }
 {
     let b = k / 15 + 1;
-    if a.len() / 512 <= b {
+    if a.len() / checksum::BLOCK <= b {
         return &a[0..0];
     }
-    let o = b * 512 + entries::start_of(k % 15);
+    let o = b * checksum::BLOCK + entries::start_of(k % 15);
     let e = o + 32;
     &a[o..e]
 }
@@ -86,7 +86,7 @@ pub fn count(a: &[u8]) -> Counted
     ensures { λ r. ⌜ r ≡ countRecords (now (a .entry)) ⌝ }
 {
     if !test(a) {
-        return Counted::Refused(1);
+        return Counted::Refused(refusals::MALFORMED);
     }
     Counted::Count(records(a))
 }
@@ -96,10 +96,10 @@ pub fn find(a: &[u8], k: usize) -> u8
     ensures { λ r. ⌜ r ≡ findRecord (now (a .entry)) k ⌝ }
 {
     if !test(a) {
-        return 1;
+        return refusals::MALFORMED;
     }
     if records(a) <= k {
-        return 12;
+        return refusals::NO_SUCH_RECORD;
     }
     0
 }

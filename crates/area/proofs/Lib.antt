@@ -1,3 +1,3 @@
 pub mod Parts
-pub mod Formed
+pub mod Exact
 pub mod Runs

@@ -47,7 +47,7 @@ unfoldable pub linkBytes : List ℕ → ℕ → List ℕ
 linkBytes a k = take linkSize (drop (linksFrom + k * linkSize) a)
 
 unfoldable pub configAt : List ℕ → Config
-configAt a = blockConfig (take 512 a)
+configAt a = blockConfig (take stationsFrom a)
 
 unfoldable pub stateAt : List ℕ → State vector
 stateAt a =
@@ -73,7 +73,7 @@ unfoldable pub partsTest : Config → List ℕ → Bool
 partsTest c a = networkRules c && (stationsTest c a && (linksTest c a && allZero (drop zerosFrom a)))
 
 unfoldable pub test : List ℕ → Bool
-test a = eqb (length a) areaSize && (wellMadeHeader (take 512 a) && partsTest (configAt a) a)
+test a = eqb (length a) areaSize && (wellMadeHeader (take stationsFrom a) && partsTest (configAt a) a)
 
 -- ---- states that have an image of their own: every list has its length and every number fits its bytes
 pub record Imaged (c : Config) (s : State vector) : Type 0 where

@@ -113,7 +113,7 @@ pub fn well_formed(a: &[u8]) -> bool
     if a.len() != SIZE {
         return false;
     }
-    let head = &a[0..512];
+    let head = &a[0..STATIONS];
     if !header::well_made(head) {
         return false;
     }

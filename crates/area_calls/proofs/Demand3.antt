@@ -20,7 +20,7 @@ use Rattle.rules.proofs.Laws.{accepted-well-made}
 use Rattle.causality.specs.Sound.{taken, withTaken, takens}
 use Rattle.causality.proofs.Demand3.{demand3}
 use Rattle.area.specs.Layout.{image}
-use Rattle.area.proofs.Formed.{formed-imaged as images, config-back, state-back, image-passes}
+use Rattle.area.proofs.Exact.{formed-imaged as images, config-back, state-back, image-passes}
 use Rattle.area_calls.specs.Calls.{setupOn, imaged, stepOn}
 use Rattle.area_calls.specs.Sound.{logOn, takensOn, Demand3}
 use Rattle.reset.proofs.Cases.{by-test}

@@ -6,6 +6,10 @@ use lib.Dec.{eqb}
 use lib.ListN.{take}
 use Rattle.codec.specs.Num.{bytesOf, numAt}
 
+-- the length of a block in bytes
+abbrev pub blockSize : ℕ
+blockSize = 512
+
 -- each byte times its place, added up; the places start at k
 unfoldable pub weighted : ℕ → List ℕ → ℕ
 weighted k [] = 0

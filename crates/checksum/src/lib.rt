@@ -7,6 +7,9 @@ ghost use Rattle.codec.specs.Every.{allZero};
 ghost use Rattle.checksum.specs.Check.{weighted, checkOf, sealed as Sealed, sealOf};
 ghost use Rattle.checksum.specs.Columns.{columnShare, columnSum, columnRows, columnsTo};
 
+// A block in bytes.
+pub const BLOCK: usize = 512;
+
 // The sum of a column, and the sum of its bytes, each times its row.
 struct Sums {
     low: u16,

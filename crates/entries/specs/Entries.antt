@@ -7,7 +7,7 @@ use lib.ListN.{length, getD, take, drop}
 use Rattle.codec.specs.Num.{bytesOf, numAt}
 use Rattle.codec.specs.Splice.{splice}
 use Rattle.codec.specs.Every.{every, allZero, blank}
-use Rattle.checksum.specs.Check.{sealed, sealOf}
+use Rattle.checksum.specs.Check.{blockSize, sealed, sealOf}
 use Rattle.codec.specs.Written.{Written, refused, wrote}
 use Rattle.record.specs.Record.{wellMadeRecord}
 use Rattle.entries.specs.Starts.{recordStart, recordsEnd}
@@ -41,7 +41,7 @@ bodyFits l count = every count (λ (k : ℕ). wellMadeRecord (recordOf l k)) && 
 
 -- bytes that are an entries block
 unfoldable pub wellMadeEntries : List ℕ → Bool
-wellMadeEntries l = eqb (length l) 512 && (frontFits l && bodyFits l (countOf l))
+wellMadeEntries l = eqb (length l) blockSize && (frontFits l && bodyFits l (countOf l))
 
 -- the block of a number and its records' bytes: kind 2, the count, the number at 4, the records from 16, zeros, the check
 unfoldable pub entriesBody : ℕ → List ℕ → List ℕ
@@ -65,7 +65,7 @@ writeEntries number rs d =
     cond (eqb (length rs) 0 || ltb 480 (length rs))
     (refused 12 d)
     (cond (entriesFit number rs)
-    (cond (ltb (length d) 512) (refused 11 d) (wrote (splice d 0 (imageEntries number rs))))
+    (cond (ltb (length d) blockSize) (refused 11 d) (wrote (splice d 0 (imageEntries number rs))))
     (refused 1 d))
 
 unfoldable pub readEntries : List ℕ → EntriesRead

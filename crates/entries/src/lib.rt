@@ -80,7 +80,7 @@ fn body_fits(s: &[u8], count: usize) -> bool
 pub fn well_made(s: &[u8]) -> bool
     ensures { λ r. ⌜ r ≡ wellMadeEntries (now (s .entry)) ⌝ }
 {
-    if s.len() != 512 {
+    if s.len() != checksum::BLOCK {
         return false;
     }
     if !front_fits(s) {
@@ -128,18 +128,18 @@ pub fn write(number: u32, rs: &[u8], d: &mut [u8]) -> u8
     ensures { λ r. ⌜ (r ≡ writeEntries number (now (rs .entry)) (now (d .entry)) .answer) × (now (d .exit) ≡ writeEntries number (now (rs .entry)) (now (d .entry)) .buffer) ⌝ }
 {
     if rs.len() == 0 {
-        return 12;
+        return refusals::NO_SUCH_RECORD;
     }
     if 480 < rs.len() {
-        return 12;
+        return refusals::NO_SUCH_RECORD;
     }
     if !entries_fit(number, rs) {
-        return 1;
+        return refusals::MALFORMED;
     }
-    if d.len() < 512 {
-        return 11;
+    if d.len() < checksum::BLOCK {
+        return refusals::BUFFER_LENGTH;
     }
-    store(&mut d[0..512], number, rs);
+    store(&mut d[0..checksum::BLOCK], number, rs);
     0
 }
 
@@ -148,7 +148,7 @@ pub fn read(s: &[u8]) -> EntriesRead
     ensures { λ r. ⌜ r ≡ readEntries (now (s .entry)) ⌝ }
 {
     if !well_made(s) {
-        return EntriesRead::Refused(1);
+        return EntriesRead::Refused(refusals::MALFORMED);
     }
     EntriesRead::Block {
         number: codec::get32(s, 4),
@@ -161,13 +161,13 @@ pub fn read_record(s: &[u8], k: usize, d: &mut [u8]) -> u8
     ensures { λ r. ⌜ (r ≡ readRecord (now (s .entry)) k (now (d .entry)) .answer) × (now (d .exit) ≡ readRecord (now (s .entry)) k (now (d .entry)) .buffer) ⌝ }
 {
     if !well_made(s) {
-        return 1;
+        return refusals::MALFORMED;
     }
     if count_of(s) <= k {
-        return 12;
+        return refusals::NO_SUCH_RECORD;
     }
     if d.len() < 32 {
-        return 11;
+        return refusals::BUFFER_LENGTH;
     }
     let o = start_of(k);
     let e = o + 32;

@@ -8,7 +8,7 @@ use Rattle.codec.specs.Num.{bytesOf, numAt, numsOf, numsAt}
 use Rattle.codec.specs.Splice.{splice}
 use Rattle.codec.specs.Rows.{upto}
 use Rattle.codec.specs.Every.{every, allZero, blank}
-use Rattle.checksum.specs.Check.{sealed, sealOf}
+use Rattle.checksum.specs.Check.{blockSize, sealed, sealOf}
 use Rattle.codec.specs.Written.{Written, refused, wrote}
 use Rattle.header.specs.declared.Header.{Header}
 use Rattle.header.specs.declared.HeaderRead.{HeaderRead}
@@ -53,7 +53,7 @@ imageHeader h m = sealOf (headerBody h m)
 -- bytes that are a header block: length, check, kind, unnamed bytes and fields
 unfoldable pub wellMadeHeader : List ℕ → Bool
 wellMadeHeader l =
-    eqb (length l) 512 && (sealed l && (eqb (getD l 0 0) 1
+    eqb (length l) blockSize && (sealed l && (eqb (getD l 0 0) 1
     && (allZero (take 12 (drop 4 l)) && (allZero (take 414 (drop 96 l)) && headerFits (parseHeader l) (tableAt 8 l 32)))))
 
 -- ---- the calls
@@ -61,7 +61,7 @@ wellMadeHeader l =
 unfoldable pub writeHeader : Header → List (List ℕ) → List ℕ → Written
 writeHeader h m d =
     cond (headerFits h m)
-    (cond (ltb (length d) 512) (refused 11 d) (wrote (splice d 0 (imageHeader h m))))
+    (cond (ltb (length d) blockSize) (refused 11 d) (wrote (splice d 0 (imageHeader h m))))
     (refused 1 d)
 
 unfoldable pub readHeader : List ℕ → HeaderRead

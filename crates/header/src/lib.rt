@@ -151,7 +151,7 @@ fn rest_blank(s: &[u8]) -> bool
 pub fn well_made(s: &[u8]) -> bool
     ensures { λ r. ⌜ r ≡ wellMadeHeader (now (s .entry)) ⌝ }
 {
-    if s.len() != 512 {
+    if s.len() != checksum::BLOCK {
         return false;
     }
     if !((s[0] == 1) & fields_fit(s)) {
@@ -206,12 +206,12 @@ pub fn write(h: Header, limits: [[u8; 8]; 8], d: &mut [u8]) -> u8
     ensures { λ r. ⌜ (r ≡ writeHeader h limits (now (d .entry)) .answer) × (now (d .exit) ≡ writeHeader h limits (now (d .entry)) .buffer) ⌝ }
 {
     if !header_fits(h, limits) {
-        return 1;
+        return refusals::MALFORMED;
     }
-    if d.len() < 512 {
-        return 11;
+    if d.len() < checksum::BLOCK {
+        return refusals::BUFFER_LENGTH;
     }
-    store(&mut d[0..512], h, limits);
+    store(&mut d[0..checksum::BLOCK], h, limits);
     0
 }
 
@@ -221,7 +221,7 @@ pub fn read(s: &[u8]) -> HeaderRead
 {
     if !well_made(s) {
         return HeaderRead {
-            refusal: 1,
+            refusal: refusals::MALFORMED,
             header: Header {
                 n: 0,
                 t: 0,

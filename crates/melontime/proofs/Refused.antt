@@ -20,7 +20,7 @@ use Rattle.reset.specs.Steps.{Step, Answer, refused, entry, modeAfter, step}
 use Rattle.reset.proofs.StepLaws.{refused-leaves}
 use Rattle.rules.specs.Setup.{blockConfig}
 use Rattle.area.specs.Layout.{image, configAt, stateAt, test}
-use Rattle.area.proofs.Formed.{formed}
+use Rattle.area.proofs.Exact.{formed}
 use Rattle.area_calls.specs.Calls.{AreaStep, imaged, setupOn, stepOn}
 use Rattle.host_numbers.specs.Numbers.{tells, recordLength, fieldsLength, areaLength, entryMade, stepNumber, countedNumber}
 use Rattle.melontime.specs.Calls.{HostStep, recordAfter, hostStep}

@@ -20,7 +20,7 @@ use Rattle.station.specs.View.{modeView, stationView}
 use Rattle.station.specs.declared.Station.{Station as CodeStation}
 use Rattle.link.specs.Image.{sized}
 use Rattle.area.specs.Layout.{stationBytes, configAt, stateAt, test}
-use Rattle.area.proofs.Formed.{tested, station-read}
+use Rattle.area.proofs.Exact.{tested, station-read}
 
 -- a station is normal and in the phase of station 0
 abbrev pub settled : State vector → ℕ → Bool

@@ -40,7 +40,7 @@ pub fn rest(area: &[u8]) -> RestAnswer
     if !area::well_formed(area) {
         return RestAnswer::Refused(refusals::ILL_FORMED_STATE);
     }
-    let h = header::load(&area[0..512]);
+    let h = header::load(&area[0..area::STATIONS]);
     if quiescent(area, h.n) {
         return RestAnswer::Yes;
     }

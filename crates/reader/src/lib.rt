@@ -27,11 +27,11 @@ fn wide(x: u8) -> usize
 fn count(archive: &[u8]) -> usize
     ensures { λ r. ⌜ r ≡ records (now (archive .entry)) ⌝ }
 {
-    let n = archive.len() / 512;
+    let n = archive.len() / checksum::BLOCK;
     if n < 2 {
         return 0;
     }
-    let o = (n - 1) * 512 + 1;
+    let o = (n - 1) * checksum::BLOCK + 1;
     (n - 2) * 15 + wide(archive[o])
 }
 

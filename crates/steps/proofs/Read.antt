@@ -24,7 +24,7 @@ use Rattle.rules.specs.Setup.{headerOf}
 use Rattle.station.specs.Image.{parseStation}
 use Rattle.step_outcomes.proofs.Outcome.{station-small, neighbour-small}
 use Rattle.area.specs.Layout.{image, stationBytes, linkBytes, configAt, stateAt, test}
-use Rattle.area.proofs.Formed.{tested, formed, formed-fits, station-read, formed-imaged}
+use Rattle.area.proofs.Exact.{tested, formed, formed-fits, station-read, formed-imaged}
 use Rattle.area_edit.proofs.PartLaws.{link-held}
 use Rattle.steps.specs.Answers.{steppedOf, noRecord}
 use Rattle.steps.specs.Does.{Does}

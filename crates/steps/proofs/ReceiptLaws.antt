@@ -14,7 +14,7 @@ use Rattle.link.specs.declared.Item.{Item as CodeItem}
 use Rattle.link.proofs.Laws.{parse-item}
 use Rattle.step_outcomes.proofs.Outcome.{net}
 use Rattle.area.specs.Layout.{linkBytes, configAt, stateAt}
-use Rattle.area.proofs.Formed.{link-read}
+use Rattle.area.proofs.Exact.{link-read}
 use Rattle.steps.specs.Taking.{Holds}
 use Rattle.steps.proofs.Read.{AtLink, passed, at-link-of, count-is}
 

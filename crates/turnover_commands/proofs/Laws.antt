@@ -19,7 +19,7 @@ use Rattle.reset.proofs.Formed.{initial-well-formed, step-well-formed}
 use Rattle.rules.specs.Setup.{blockConfig}
 use Rattle.rules.proofs.Laws.{accepted-well-made}
 use Rattle.area.specs.Layout.{configAt, stateAt, test}
-use Rattle.area.proofs.Formed.{formed-fits, image-passes}
+use Rattle.area.proofs.Exact.{formed-fits, image-passes}
 use Rattle.area_calls.specs.Calls.{setupOn, stepOn}
 use Rattle.area_calls.proofs.Demand3.{setup-accepts as accepted}
 use Rattle.steps.specs.Answers.{steppedOf}

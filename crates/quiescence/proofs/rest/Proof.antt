@@ -4,7 +4,7 @@ use mathlib.Core.Bool.{true}
 use denote.Ref.{now}
 use borrow.Author.Tests.{not-true, not-false}
 use Rattle.area.specs.Layout.{test}
-use Rattle.area.proofs.Formed.{tested}
+use Rattle.area.proofs.Exact.{tested}
 use Rattle.area_calls.specs.Calls.{restOn}
 use Rattle.quiescence.proofs.Laws.{n-small, quiescent-is}
 use borrow.Author.Needs.{needs}

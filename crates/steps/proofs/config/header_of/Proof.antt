@@ -1,6 +1,6 @@
 use native.Mathlib.Omega.{arith}
 use Rattle.area.specs.Layout.{configAt}
-use Rattle.area.proofs.Formed.{tested}
+use Rattle.area.proofs.Exact.{tested}
 use borrow.Author.Needs.{needs}
 use Rattle.steps.proofs.config.header_of.Statement.{statement}
 use Rattle.steps.proofs.config.header_of.Tie as tie
