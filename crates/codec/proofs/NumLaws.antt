@@ -7,7 +7,7 @@ use native.Mathlib.Numerals.{add-one, one-add}
 use native.Mathlib.Nat.{pow-suc, zero-mul, suc-mul, add-comm}
 use lib.ListN.{length, getD, take, drop, length-append}
 use lib.Seq.{drop-cons, getD-drop, take-at, drop-at}
-use Rattle.codec.specs.Num.{bytesOf, numAt, numOf, numsOf, numsAt, Bytes}
+use Rattle.codec.specs.Num.{bytesOf, numAt, numOf, numsOf, numsAt, AreBytes}
 use Rattle.codec.specs.Splice.{splice}
 use Rattle.codec.proofs.SpliceLaws.{splice-more}
 
@@ -23,12 +23,13 @@ back (suc k) x h =
     omega (arith, back k (x / 256) (omega arith))
 
 -- bytes come back
-pub forth : (l : List ℕ) → Bytes l → bytesOf (length l) (numOf l) ≡ l
+pub forth : (l : List ℕ) → AreBytes l → bytesOf (length l) (numOf l) ≡ l
 forth [] h = refl
 forth (b ∷ l) h =
-    let e : (b + 256 * numOf l) % 256 ≡ b = omega (arith, h .0) in
-    let q : (b + 256 * numOf l) / 256 ≡ numOf l = omega (arith, h .0) in
-    rw (e, q, forth l (h .1))
+    let g : b < 256 = h 0 in
+    let e : (b + 256 * numOf l) % 256 ≡ b = omega arith in
+    let q : (b + 256 * numOf l) / 256 ≡ numOf l = omega arith in
+    rw (e, q, forth l (λ (i : ℕ). h (suc i)))
 
 -- the number at a place is the number of the part there
 pub part : (k : ℕ) (l : List ℕ) (at : ℕ) → at + k ≤ length l → numAt k l at ≡ numOf (take k (drop at l))

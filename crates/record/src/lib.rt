@@ -86,18 +86,12 @@ pub fn store(d: &mut [u8], r: Record)
     codec::put_row(d, 16, counts);
 }
 
-fn wide(x: u8) -> u32
-    ensures { λ r. ⌜ r ≡ x ⌝ }
-{
-    x as u32
-}
-
 // The spare bytes, and what of the station is above 7, joined: 0 in a record.
 fn spare(s: &[u8]) -> u32
     requires { ⌜ 32 ≤ length (now s) ⌝ }
     ensures { λ r. ⌜ eqb r 0 ≡ (eqb (getD (now (s .entry)) 3 0) 0 && (eqb (numAt 4 (now (s .entry)) 12) 0 && ltb (getD (now (s .entry)) 1 0) 8)) ⌝ }
 {
-    wide(s[3]) | (codec::get32(s, 12) | wide(s[1] / 8))
+    codec::wide32(s[3]) | (codec::get32(s, 12) | codec::wide32(s[1] / 8))
 }
 
 // The bytes are a record: its length, its spare bytes and its fields are right.

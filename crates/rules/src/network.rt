@@ -8,12 +8,6 @@ ghost use Rattle.rules.specs.Setup.{headerConfig};
 ghost use Rattle.rules.specs.Table.{columnOf, turnedOf};
 use header::Header;
 
-fn wide8(x: u8) -> u32
-    ensures { λ r. ⌜ (r ≡ x) × (r < 256) ⌝ }
-{
-    x as u32
-}
-
 fn wide16(x: u16) -> u32
     ensures { λ r. ⌜ (r ≡ x) × (r < 65536) ⌝ }
 {
@@ -126,7 +120,7 @@ fn around(limits: [[u8; 8]; 8], back: [[u8; 8]; 8], i: usize) -> u32
     while j < 8 {
         let out = limits[i][j];
         let into = back[i][j];
-        s += wide8(out) + wide8(into);
+        s += codec::wide32(out) + codec::wide32(into);
         j += 1;
     }
     s

@@ -26,7 +26,7 @@ pub fn linked(h: Header, limits: [[u8; 8]; 8], station: u32, peer: u32) -> bool
     requires { ⌜ h .n ≤ 8 ⌝ }
     ensures { λ r. ⌜ r ≡ isLinked (h .n) limits station peer ⌝ }
 {
-    if wide(h.n) <= station {
+    if codec::wide32(h.n) <= station {
         return false;
     }
     if 8 <= peer {
@@ -36,10 +36,4 @@ pub fn linked(h: Header, limits: [[u8; 8]; 8], station: u32, peer: u32) -> bool
     let j = peer as usize;
     let row = limits[i];
     row[j] != 0
-}
-
-pub fn wide(n: u8) -> u32
-    ensures { λ r. ⌜ (r ≡ n) × (r < 256) ⌝ }
-{
-    n as u32
 }

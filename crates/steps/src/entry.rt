@@ -24,7 +24,7 @@ pub fn enter(area: &mut [u8], station: u32, register: u32) -> Stepped
     ensures { λ r. ⌜ Does (Enter station register) (now (area .entry)) r (now (area .exit)) ⌝ }
 {
     let h = config::header_of(&area[..]);
-    if config::wide(h.n) <= station {
+    if codec::wide32(h.n) <= station {
         return answer::refused(refusals::NO_SUCH_STATION);
     }
     let i = station as usize;
@@ -70,7 +70,7 @@ fn send_refusal(s: Station, t: u16, limit: u8, count: u8, i: usize, j: usize) ->
     if t <= counts[i] {
         return refusals::BEYOND_BOUND;
     }
-    if link::places(limit) <= config::wide(count) {
+    if link::places(limit) <= codec::wide32(count) {
         return refusals::BEYOND_BOUND;
     }
     0

@@ -15,7 +15,7 @@ pub fn start(area: &mut [u8], station: u32) -> Stepped
     ensures { λ r. ⌜ Does (Start station) (now (area .entry)) r (now (area .exit)) ⌝ }
 {
     let h = config::header_of(&area[..]);
-    if config::wide(h.n) <= station {
+    if codec::wide32(h.n) <= station {
         return answer::refused(refusals::NO_SUCH_STATION);
     }
     let limits = config::limits_of(&area[..]);

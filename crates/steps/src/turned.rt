@@ -32,7 +32,7 @@ fn room(area: &[u8], row: [u8; 8], i: usize, k: u32) -> bool
     let mut ok = true;
     let mut j = 0;
     while j < 8 {
-        let count = config::wide(parts::count_at(area, i, j));
+        let count = codec::wide32(parts::count_at(area, i, j));
         let limit = row[j];
         ok = ok & ((limit == 0) | (count + k <= link::places(limit)));
         j += 1;

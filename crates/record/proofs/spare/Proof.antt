@@ -9,7 +9,7 @@ use Rattle.record.proofs.spare.Tie as tie
 returns : tie.Need-returns
 returns c =
     let l = now (c .before .before .before .before .before .before .args .s) in
-    rw (c .before .before .before .wide .ensures, c .before .before .get32 .ensures, c .wide2 .ensures) (spare-law (getD l 3 0) (numAt 4 l 12) (getD l 1 0))
+    rw (c .before .before .before .wide32 .ensures .0, c .before .before .get32 .ensures, c .wide322 .ensures .0) (spare-law (getD l 3 0) (numAt 4 l 12) (getD l 1 0))
 
 pub spare-spec : {M : Type 1} → statement M
 spare-spec =

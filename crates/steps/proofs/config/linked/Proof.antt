@@ -9,11 +9,11 @@ use Rattle.steps.proofs.config.linked.Tie as tie
 
 -- there is a station
 below : (c : tie.Else1) → c .before .before .args .station < c .before .before .args .h .n
-below c = omega (arith, c .before .wide .ensures .0)
+below c = omega (arith, c .before .wide32 .ensures .0)
 
 returns : tie.Need-returns
 unfolding isLinked
-returns c = rw (le-ltb (c .before .before .args .station) (c .before .before .args .h .n) (omega (arith, c .before .wide .ensures .0)))
+returns c = rw (le-ltb (c .before .before .args .station) (c .before .before .args .h .n) (omega (arith, c .before .wide32 .ensures .0)))
 
 returns-2 : tie.Need-returns-2
 unfolding isLinked

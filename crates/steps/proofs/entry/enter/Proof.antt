@@ -33,7 +33,7 @@ module _ (c : tie.After-header-of) where
 
 -- there is such a station
 at : (c : tie.Else1) → AtStation (a (c .before .before)) (i (c .before .before))
-at c = at-station (known (c .before .before)) (c .before .before .header-of .ensures) _ (omega (arith, c .before .wide .ensures .0))
+at c = at-station (known (c .before .before)) (c .before .before .header-of .ensures) _ (omega (arith, c .before .wide32 .ensures .0))
 
 -- its record is read
 module _ (c : tie.After-load-station) where
@@ -53,7 +53,7 @@ returns : tie.Need-returns
 returns c =
     let w = c .before .before in
     let k = known (w .before) in
-    refuses k (enter-no-station _ _ (k .formed) _ _ (no-station k (w .before .header-of .ensures) _ (omega (arith, w .wide .ensures .0, c .before .if1 .taken)))) (c .refused .ensures)
+    refuses k (enter-no-station _ _ (k .formed) _ _ (no-station k (w .before .header-of .ensures) _ (omega (arith, w .wide32 .ensures .0, c .before .if1 .taken)))) (c .refused .ensures)
 
 returns-2 : tie.Need-returns-2
 returns-2 c =

@@ -28,7 +28,7 @@ returns-4 c =
     let q = c .before .before .before in
     let p = q .before .before in
     let o = p .before .before in
-    rw (sym (o .before .may-send .ensures) ∙ not-false _ (o .if1 .left), lt-leb _ _ (p .if2 .left), lt-leb _ _ (q .if3 .left), ← c .before .before .places .ensures .0, ← c .before .wide .ensures .0, le-leb _ _ (c .if4 .taken))
+    rw (sym (o .before .may-send .ensures) ∙ not-false _ (o .if1 .left), lt-leb _ _ (p .if2 .left), lt-leb _ _ (q .if3 .left), ← c .before .before .places .ensures .0, ← c .before .wide32 .ensures .0, le-leb _ _ (c .if4 .taken))
 
 returns-5 : tie.Need-returns-5
 unfolding sendRefusal
@@ -36,7 +36,7 @@ returns-5 c =
     let q = c .before .before .before in
     let p = q .before .before in
     let o = p .before .before in
-    rw (sym (o .before .may-send .ensures) ∙ not-false _ (o .if1 .left), lt-leb _ _ (p .if2 .left), lt-leb _ _ (q .if3 .left), ← c .before .before .places .ensures .0, ← c .before .wide .ensures .0, lt-leb _ _ (c .if4 .left))
+    rw (sym (o .before .may-send .ensures) ∙ not-false _ (o .if1 .left), lt-leb _ _ (p .if2 .left), lt-leb _ _ (q .if3 .left), ← c .before .before .places .ensures .0, ← c .before .wide32 .ensures .0, lt-leb _ _ (c .if4 .left))
 
 pub send-refusal-spec : {M : Type 1} → statement M
 send-refusal-spec =

@@ -21,7 +21,7 @@ abbrev μ-loop : tie.MeasureT-loop
 μ-loop area i k row ok₀ j₀ ok j = 8 - j
 
 loop-again : tie.Need-loop-again Inv-loop μ-loop
-loop-again c = (omega arith, rw (every-turn, c .before .before .before .before .loop .inv .1, c .before .wide .ensures .0, c .places .ensures .0, c .before .before .count-at .ensures))
+loop-again c = (omega arith, rw (every-turn, c .before .before .before .before .loop .inv .1, c .before .wide32 .ensures .0, c .places .ensures .0, c .before .before .count-at .ensures))
 
 returns : tie.Need-returns Inv-loop μ-loop
 unfolding roomBytes
