@@ -1,5 +1,5 @@
 -- The records of a block tested together, as the code does it: their counts by columns, their first bytes by a table. The test itself is in
--- Archive. Assumes nothing.
+-- BlockTest. Assumes nothing.
 use Prim.Native.Nat.{ℕ, _+_, _*_, _/_, _%_, _<_, _≤_}
 use mathlib.Core.Path.{_≡_}
 use mathlib.Core.List.{List, []}
