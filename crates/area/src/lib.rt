@@ -97,7 +97,7 @@ fn parts_fit(head: &[u8], a: &[u8]) -> bool
     requires { ⌜ (length (now head) ≡ 512) × (length (now a) ≡ areaSize) × (wellMade (blockConfig (now head)) ≡ true) ⌝ }
     ensures { λ r. ⌜ r ≡ partsTest (blockConfig (now (head .entry))) (now (a .entry)) ⌝ }
 {
-    if !rules::network::setup_fits(header::load(head), header::load_limits(head)) {
+    if !rules::setup_fits(header::load(head), header::load_limits(head)) {
         return false;
     }
     if !stations_fit(head, a) {

@@ -2,8 +2,8 @@
 use quiescence::RestAnswer;
 use record::Record;
 use station::Mode;
-use steps::answer::Answer;
-use steps::answer::Stepped;
+use step_parts::answer::Answer;
+use step_parts::answer::Stepped;
 
 fn word(mode: Mode) {
     match mode {

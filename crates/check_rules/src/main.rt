@@ -96,7 +96,7 @@ fn run(name: &[u8], k: u64, n: u8, t: u16, allowances: [u16; 8], limits: [[u8; 8
     say(
         name,
         k,
-        rules::network::setup_fits(Header { n, t, allowances }, limits),
+        rules::setup_fits(Header { n, t, allowances }, limits),
     );
 }
 
@@ -188,16 +188,8 @@ fn headers(k: usize, n: u8)
         t: 99,
         allowances: [0u16; 8],
     };
-    say(
-        b"stations of a row",
-        at,
-        rules::network::setup_fits(h, chain(k)),
-    );
-    say(
-        b"stations of a ring",
-        at,
-        rules::network::setup_fits(h, ring()),
-    );
+    say(b"stations of a row", at, rules::setup_fits(h, chain(k)));
+    say(b"stations of a ring", at, rules::setup_fits(h, ring()));
 }
 
 fn places() {

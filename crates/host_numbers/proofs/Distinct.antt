@@ -28,9 +28,9 @@ use Rattle.reset.specs.Steps.{Step, enter, send, recv, start, Answer, refused, 
 use Rattle.area.specs.Layout.{configAt, stateAt, test}
 use Rattle.area_calls.specs.Calls.{AreaStep, stepOn, RestAnswer, yes, no, restOn, restRefused}
 use Rattle.station.specs.Image.{modeByte, modeOf}
-use Rattle.steps.specs.Answers.{modeCode, steppedOf}
-use Rattle.steps.specs.declared.answer.Answer.{Answer as CodeAnswer}
-use Rattle.steps.specs.declared.answer.Answer.the-variants.{Refused as NotDone, Entered, InMode}
+use Rattle.step_parts.specs.Answers.{modeCode, steppedOf}
+use Rattle.step_parts.specs.declared.answer.Answer.{Answer as CodeAnswer}
+use Rattle.step_parts.specs.declared.answer.Answer.the-variants.{Refused as NotDone, Entered, InMode}
 use Rattle.host_numbers.specs.Numbers.{Alike, entryMade, tells, modes, counts, stepNumber, restNumber, orderNumber, verdictNumber, blockNumber, countedNumber}
 use Rattle.host_numbers.proofs.Tests.{by-test}
 

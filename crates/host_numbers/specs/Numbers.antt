@@ -13,9 +13,9 @@ use Rattle.reset.specs.Steps.{Answer, refused, entry, modeAfter}
 use Rattle.area_calls.specs.Calls.{RestAnswer, yes, no, restRefused}
 use Rattle.station.specs.Image.{modeByte}
 use Rattle.station.specs.View.{modeView}
-use Rattle.steps.specs.Answers.{steppedOf}
-use Rattle.steps.specs.declared.answer.Answer.{Answer as CodeAnswer}
-use Rattle.steps.specs.declared.answer.Answer.the-variants.{Refused as NotDone, Entered, InMode}
+use Rattle.step_parts.specs.Answers.{steppedOf}
+use Rattle.step_parts.specs.declared.answer.Answer.{Answer as CodeAnswer}
+use Rattle.step_parts.specs.declared.answer.Answer.the-variants.{Refused as NotDone, Entered, InMode}
 use mathlib.Core.Bool.{Bool, true, false}
 
 -- ---- the numbers by name

@@ -13,7 +13,7 @@ use entries::EntriesRead;
 use header::Header;
 use quiescence::RestAnswer;
 use station::Mode;
-use steps::answer::Answer;
+use step_parts::answer::Answer;
 use verdict::Compared;
 
 // The host's numbers (docs/HOST.md). Lengths of a lent record and of a header's fields in bytes; the refusals of the host's own

@@ -11,10 +11,10 @@ use Rattle.record.specs.Record.{imageRecord}
 use Rattle.record.proofs.Laws.{image-length}
 use Rattle.reset.specs.State.{normal, mute, standBy}
 use Rattle.reset.specs.Steps.{Step, Answer, refused, entry, modeAfter}
-use Rattle.steps.specs.Answers.{steppedOf}
-use Rattle.steps.specs.declared.answer.Answer.{Answer as CodeAnswer}
-use Rattle.steps.specs.declared.answer.Answer.the-variants.{Refused as NotDone, Entered, InMode}
-use Rattle.steps.specs.declared.answer.Stepped.{Stepped}
+use Rattle.step_parts.specs.Answers.{steppedOf}
+use Rattle.step_parts.specs.declared.answer.Answer.{Answer as CodeAnswer}
+use Rattle.step_parts.specs.declared.answer.Answer.the-variants.{Refused as NotDone, Entered, InMode}
+use Rattle.step_parts.specs.declared.answer.Stepped.{Stepped}
 use Rattle.area_calls.specs.Calls.{stepOn}
 use Rattle.network.specs.Answers.{Steps}
 use Rattle.host_numbers.specs.Numbers.{recordLength, areaLength, entryMade, stepNumber, codeNumber, isEntry}

@@ -7,9 +7,9 @@ use lib.Dec.{eqb}
 use lib.ListN.{length}
 use Rattle.record.specs.Record.{imageRecord}
 use Rattle.reset.specs.Steps.{Step, Answer, refused, entry, modeAfter}
-use Rattle.steps.specs.Answers.{eventRecord}
+use Rattle.step_parts.specs.Answers.{eventRecord}
 use Rattle.area_calls.specs.Calls.{AreaStep, stepOn}
-use Rattle.steps.specs.declared.answer.Stepped.{Stepped}
+use Rattle.step_parts.specs.declared.answer.Stepped.{Stepped}
 use Rattle.host_numbers.specs.Numbers.{recordLength, areaLength, stepNumber, isEntry}
 
 -- an accepted entry writes its record; every other answer leaves the 32 bytes

@@ -16,7 +16,7 @@ use host_numbers::ENTRY;
 use host_numbers::FIELDS;
 use host_numbers::MALFORMED;
 use host_numbers::RECORD;
-use steps::answer::Stepped;
+use step_parts::answer::Stepped;
 
 // The number of a step's answer; an accepted entry's record is written.
 fn tell(r: Stepped, event: &mut [u8]) -> u64

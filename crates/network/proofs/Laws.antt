@@ -6,10 +6,10 @@ use mathlib.Core.Bool.{Bool, true, false, not}
 use borrow.Author.Tests.{not-true, not-false}
 use Rattle.reset.specs.Steps.{Step}
 use Rattle.area.specs.Layout.{test}
-use Rattle.steps.specs.Answers.{noRecord}
-use Rattle.steps.specs.Does.{Does}
-use Rattle.steps.specs.declared.answer.Answer.the-variants.{Refused}
-use Rattle.steps.specs.declared.answer.Stepped.{Stepped}
+use Rattle.step_parts.specs.Answers.{noRecord}
+use Rattle.step_parts.specs.Does.{Does}
+use Rattle.step_parts.specs.declared.answer.Answer.the-variants.{Refused}
+use Rattle.step_parts.specs.declared.answer.Stepped.{Stepped}
 use Rattle.area_calls.specs.Calls.{stepOn}
 use Rattle.network.specs.Answers.{Steps}
 

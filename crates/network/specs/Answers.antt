@@ -3,8 +3,8 @@ use Prim.Native.Nat.{ℕ}
 use mathlib.Core.Path.{_≡_}
 use mathlib.Core.List.{List}
 use Rattle.reset.specs.Steps.{Step}
-use Rattle.steps.specs.Answers.{steppedOf}
-use Rattle.steps.specs.declared.answer.Stepped.{Stepped}
+use Rattle.step_parts.specs.Answers.{steppedOf}
+use Rattle.step_parts.specs.declared.answer.Stepped.{Stepped}
 use Rattle.area_calls.specs.Calls.{stepOn}
 
 -- r answers step p on area a, and b is the area afterwards

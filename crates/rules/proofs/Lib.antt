@@ -1,5 +1,3 @@
-pub mod SpreadLaws
 pub mod SumLaws
 pub mod TableLaws
 pub mod Laws
-pub mod EarlierLaws

@@ -27,7 +27,7 @@ use Rattle.reset.specs.Config.{Config, wellMade}
 use Rattle.rules.specs.Setup.{headerOf}
 use Rattle.rules.proofs.Laws.{well-made-typed, well-made-table, well-made-fits, well-made-accepted}
 use Rattle.causality.specs.HappenedBefore.{Accepted, noEntry, entryAt}
-use Rattle.steps.specs.Answers.{eventRecord}
+use Rattle.step_parts.specs.Answers.{eventRecord}
 use Rattle.run_archive.specs.Made.{bytesOfEntry, recordsOf, blockRecords, madeBlock, blocksFor, archiveOf}
 use Rattle.run_archive.specs.Claims.{InRange, Archived}
 use Rattle.reset.proofs.Cases.{by-test}

@@ -28,7 +28,7 @@ use Rattle.reset.proofs.StepLaws.{of-step}
 use Rattle.reset.proofs.ClockRange.{counts-small, vector-range}
 use Rattle.reset.proofs.Formed.{Formed, formed-of, initial-well-formed, step-well-formed}
 use Rattle.causality.specs.HappenedBefore.{Accepted, withEntry, accepted, entryAt}
-use Rattle.steps.specs.Answers.{eventRecord}
+use Rattle.step_parts.specs.Answers.{eventRecord}
 use Rattle.run_archive.specs.Claims.{InRange, AllInRange}
 use Rattle.reset.proofs.Cases.{clash}
 

@@ -30,7 +30,7 @@ use Rattle.causality.proofs.Trace.{Trace}
 use Rattle.causality.proofs.Order.{chain-exactly}
 use Rattle.causality.proofs.TraceOrder.{from-chain, clocked, by-timestamp}
 use Rattle.causality.proofs.Demand3.{run-trace}
-use Rattle.steps.specs.Answers.{eventRecord}
+use Rattle.step_parts.specs.Answers.{eventRecord}
 use Rattle.run_archive.specs.Made.{archiveOf}
 use Rattle.run_archive.specs.Claims.{entriesOf, InRange, Archived, Beside, Verdicts, Tells, EveryArchive}
 use Rattle.run_archive.proofs.RangeLaws.{all-in-range}

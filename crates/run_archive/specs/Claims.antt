@@ -27,7 +27,7 @@ use Rattle.rules.specs.Setup.{blockConfig, headerOf}
 use Rattle.causality.specs.HappenedBefore.{Accepted, accepted, entryAt, phaseOf, HappenedBefore}
 use Rattle.area_calls.specs.Calls.{setupOn}
 use Rattle.area_calls.specs.Sound.{logOn}
-use Rattle.steps.specs.Answers.{eventRecord}
+use Rattle.step_parts.specs.Answers.{eventRecord}
 use Rattle.run_archive.specs.Made.{bytesOfEntry, blockRecords, madeBlock, blocksFor, archiveOf}
 
 -- the accepted entries of a list of steps from the initial network

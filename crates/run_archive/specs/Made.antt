@@ -8,7 +8,7 @@ use Rattle.header.specs.Header.{imageHeader}
 use Rattle.entries.specs.Entries.{imageEntries}
 use Rattle.reset.specs.Config.{Config}
 use Rattle.rules.specs.Setup.{headerOf}
-use Rattle.steps.specs.Answers.{eventRecord}
+use Rattle.step_parts.specs.Answers.{eventRecord}
 use Rattle.causality.specs.HappenedBefore.{Accepted}
 
 -- the 32 bytes of an accepted entry's record

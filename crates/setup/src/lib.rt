@@ -70,7 +70,7 @@ pub fn setup(block: &[u8], area: &mut [u8]) -> u8
         return refusals::MALFORMED;
     }
     let limits = header::load_limits(block);
-    if !rules::network::setup_fits(header::load(block), limits) {
+    if !rules::setup_fits(header::load(block), limits) {
         return refusals::NETWORK_RULE;
     }
     codec::put_bytes(area, 0, block);

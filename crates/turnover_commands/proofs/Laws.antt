@@ -22,9 +22,9 @@ use Rattle.area.specs.Layout.{configAt, stateAt, test}
 use Rattle.area.proofs.Exact.{formed-fits, image-passes}
 use Rattle.area_calls.specs.Calls.{setupOn, stepOn}
 use Rattle.area_calls.proofs.Demand3.{setup-accepts as accepted}
-use Rattle.steps.specs.Answers.{steppedOf}
-use Rattle.steps.specs.Does.{Does}
-use Rattle.steps.specs.declared.answer.Stepped.{Stepped}
+use Rattle.step_parts.specs.Answers.{steppedOf}
+use Rattle.step_parts.specs.Does.{Does}
+use Rattle.step_parts.specs.declared.answer.Stepped.{Stepped}
 use Rattle.network.proofs.Laws.{done}
 use Rattle.turnover_settings.specs.declared.Run.{Run}
 use Rattle.turnover_settings.specs.declared.Stage.{Stage}

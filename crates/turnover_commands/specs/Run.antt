@@ -14,8 +14,8 @@ use Rattle.area.specs.Layout.{test}
 use Rattle.area_calls.specs.Calls.{AreaStep, stepOn}
 use Rattle.record.specs.declared.Record.{Record}
 use Rattle.station.specs.View.{modeView}
-use Rattle.steps.specs.declared.answer.Answer.{Answer as CodeAnswer}
-use Rattle.steps.specs.declared.answer.Answer.the-variants.{Refused, Entered, InMode}
+use Rattle.step_parts.specs.declared.answer.Answer.{Answer as CodeAnswer}
+use Rattle.step_parts.specs.declared.answer.Answer.the-variants.{Refused, Entered, InMode}
 use Rattle.turnover_settings.specs.declared.Run.{Run}
 use Rattle.turnover_commands.specs.declared.Reply.{Reply}
 use Rattle.turnover_settings.specs.declared.Stage.{Stage}

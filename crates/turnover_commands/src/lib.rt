@@ -1,6 +1,6 @@
 // A run of turnover, command by command: the settings before setup, the steps after it, and the line that each command prints.
-use steps::answer::Answer;
-use steps::answer::Stepped;
+use step_parts::answer::Answer;
+use step_parts::answer::Stepped;
 use turnover_input::command::Command;
 use turnover_settings::Run;
 use turnover_settings::Stage;
@@ -13,7 +13,7 @@ ghost use Rattle.turnover_output.specs.Answer.{setupText, longest};
 ghost use Rattle.turnover_output.specs.TextAt.{TextAt};
 ghost use Rattle.area.specs.Layout.{test};
 ghost use Rattle.area_calls.specs.Calls.{AreaStep};
-ghost use Rattle.steps.specs.Answers.{steppedOf};
+ghost use Rattle.step_parts.specs.Answers.{steppedOf};
 ghost use Rattle.turnover_settings.specs.declared.Stage.the-variants.{Ended};
 ghost use Rattle.turnover_settings.specs.Settings.{stagedRun};
 ghost use Rattle.turnover_commands.specs.Run.{standing, badLine, codeText, stepMade, stepping as Stepping, first as First, opening as Opening, setting as Setting, obeyed, closed, isEnded, Replies, Ready};
@@ -117,7 +117,7 @@ fn stepping(area: &mut [u8], out: &mut [u8], at: usize, run: Run, c: Command) ->
 {
     match c {
         Command::Enter { station, register } => {
-            let s = steps::entry::enter(area, station as u32, register);
+            let s = enter_send::enter(area, station as u32, register);
             made(out, at, run, station, s)
         }
         Command::Send {
@@ -125,15 +125,15 @@ fn stepping(area: &mut [u8], out: &mut [u8], at: usize, run: Run, c: Command) ->
             peer,
             register,
         } => {
-            let s = steps::entry::send(area, station as u32, peer as u32, register);
+            let s = enter_send::send(area, station as u32, peer as u32, register);
             made(out, at, run, station, s)
         }
         Command::Recv { station, peer } => {
-            let s = steps::receive::recv(area, station as u32, peer as u32);
+            let s = recv_start::recv(area, station as u32, peer as u32);
             made(out, at, run, station, s)
         }
         Command::Start { station } => {
-            let s = steps::start::start(area, station as u32);
+            let s = recv_start::start(area, station as u32);
             made(out, at, run, station, s)
         }
         _ => bad(out, at, run),

@@ -1,4 +1,0 @@
-pub mod Read
-pub mod SendLaws
-pub mod TurnedLaws
-pub mod ReceiptLaws
