@@ -13,7 +13,7 @@ use borrow.Author.Tests.{eq-eqb, eqb-true, ltb-true, lt-ltb, leb-true, le-leb}
 use Rattle.codec.specs.Num.{AreBytes, numAt, numsAt}
 use Rattle.codec.specs.Every.{every, total}
 use Rattle.codec.proofs.NumLaws.{nums-get}
-use Rattle.codec.proofs.EveryLaws.{both, join, every-at, every-of, every-same, or-zero}
+use Rattle.codec.proofs.EveryLaws.{both, join, every-none, every-at, every-of, every-same, or-zero}
 use Rattle.codec.proofs.FlagLaws.{every-turn, every-both}
 use Rattle.codec.proofs.Fronts.{bytes-take, bytes-drop}
 use Rattle.clock.specs.Range.{ceilingOf, countsFit}
@@ -21,10 +21,11 @@ use Rattle.header.specs.declared.Header.{Header}
 use Rattle.record.specs.Record.{peerFits, recordFits, parseRecord, wellMadeRecord}
 use Rattle.record.proofs.Laws.{well-made-parts}
 use Rattle.entries.specs.Starts.{recordStart, recordsEnd}
-use Rattle.entries.specs.Entries.{countOf, storedNumber, recordOf, frontFits, tailFits, bodyFits, wellMadeEntries}
+use Rattle.checksum.specs.Check.{sealed}
+use Rattle.entries.specs.Entries.{countOf, storedNumber, recordOf, fieldsFit, frontFits, tailFits, bodyFits, wellMadeEntries}
 use Rattle.entries.proofs.Laws.{start-is, end-is, front-parts}
 use Rattle.block_test.specs.BlockTest.{peerKnown, recordKnown, allKnown, blockFits}
-use Rattle.block_test.specs.Sweep.{countAt, countsTest, Fronts, placeOf, frontTest, spareTest, phaseTest, recordTest, Looked}
+use Rattle.block_test.specs.Sweep.{countAt, countsTest, Fronts, placeOf, frontTest, spareTest, phaseTest, recordTest, Looked, soundTest}
 use Rattle.block_test.proofs.FrontLaws.{front-back, front-right}
 
 -- ---- tests
@@ -181,7 +182,7 @@ records-split f l count =
 
 -- ---- the records as they are looked at
 -- the first bytes of one record more
-pub front-more : (f l : List ℕ) (wrong least d own : ℕ) → eqb d 0 ≡ eqb (getD f (placeOf (numAt 4 l 0)) 0) (numAt 4 l 0) → own ≡ numAt 2 l (16 + 2 * (placeOf (numAt 4 l 0) % 8))
+front-more : (f l : List ℕ) (wrong least d own : ℕ) → eqb d 0 ≡ eqb (getD f (placeOf (numAt 4 l 0)) 0) (numAt 4 l 0) → own ≡ numAt 2 l (16 + 2 * (placeOf (numAt 4 l 0) % 8))
     → (eqb (bitOr wrong d) 0 && leb 1 (min own least)) ≡ (eqb wrong 0 && leb 1 least && frontTest f l)
 unfolding frontTest
 front-more f l wrong least d own e o = rw (or-zero wrong d, at-least own least, e, o) (turn (eqb wrong 0) _ _ (leb 1 least))
@@ -201,10 +202,12 @@ front-more f l wrong least d own e o = rw (or-zero wrong d, at-least own least, 
     turn true true q b = and-comm q b
 
 -- one record more
-pub looked-more : (f l : List ℕ) (k : ℕ) (right : Bool) (spare phases : ℕ) → Looked f l k right spare phases
-    → Looked f l (k + 1) (right && frontTest f (recordOf l k)) (bitOr spare (numAt 4 (recordOf l k) 12)) (bitOr phases (numAt 4 (recordOf l k) 4))
-looked-more f l k right spare phases h = (
-  rw (every-turn, h .0),
+pub looked-more : (f l : List ℕ) (k wrong least spare phases d own : ℕ) → Looked f l k wrong least spare phases
+    → eqb d 0 ≡ eqb (getD f (placeOf (numAt 4 (recordOf l k) 0)) 0) (numAt 4 (recordOf l k) 0)
+    → own ≡ numAt 2 (recordOf l k) (16 + 2 * (placeOf (numAt 4 (recordOf l k) 0) % 8))
+    → Looked f l (k + 1) (bitOr wrong d) (min own least) (bitOr spare (numAt 4 (recordOf l k) 12)) (bitOr phases (numAt 4 (recordOf l k) 4))
+looked-more f l k wrong least spare phases d own h e o = (
+  rw (every-turn, front-more f (recordOf l k) wrong least d own e o, h .0),
   rw (every-turn, or-zero spare (numAt 4 (recordOf l k) 12), h .1),
   λ (i : ℕ) (b : i < k + 1). most i b (decLt i k),
 )
@@ -213,20 +216,28 @@ looked-more f l k right spare phases h = (
     most i b (yes a) = omega (arith, h .2 i a, or-add-and phases (numAt 4 (recordOf l k) 4), and-le-r phases (numAt 4 (recordOf l k) 4))
     most i b (no a) = let e : i ≡ k = omega arith in rw e (omega (arith, or-add-and phases (numAt 4 (recordOf l k) 4), and-le-l phases (numAt 4 (recordOf l k) 4)))
 
+-- no record
+pub looked-none : (f l : List ℕ) → Looked f l 0 0 1 0 0
+looked-none f l = (sym (every-none _), sym (every-none _), λ (i : ℕ) (b : i < 0). absurd (omega arith))
+
 -- the records by what is seen of them, and their phases one by one
-pub looked-each : (f l : List ℕ) (count : ℕ) (right : Bool) (spare phases : ℕ) → Looked f l count right spare phases
-    → (t : Bool) → t ≡ every count (λ (k : ℕ). phaseTest (recordOf l k)) → (right && eqb spare 0 && t) ≡ every count (λ (k : ℕ). recordTest f (recordOf l k))
-looked-each f l count right spare phases h t e = rw (records-split f l count, h .0, h .1, e)
+pub looked-each : (f l : List ℕ) (count wrong least spare phases : ℕ) → Looked f l count wrong least spare phases
+    → (t : Bool) → t ≡ every count (λ (k : ℕ). phaseTest (recordOf l k)) → (eqb wrong 0 && leb 1 least && eqb spare 0 && t) ≡ every count (λ (k : ℕ). recordTest f (recordOf l k))
+looked-each f l count wrong least spare phases h t e = rw (records-split f l count, h .0, h .1, e)
 
 -- joined phases that are low enough
-pub looked-low : (f l : List ℕ) (count : ℕ) (right : Bool) (spare phases : ℕ) → Looked f l count right spare phases → phases ≤ 999999
-    → (right && eqb spare 0) ≡ every count (λ (k : ℕ). recordTest f (recordOf l k))
-looked-low f l count right spare phases h g =
+pub looked-low : (f l : List ℕ) (count wrong least spare phases : ℕ) → Looked f l count wrong least spare phases → phases ≤ 999999
+    → (eqb wrong 0 && leb 1 least && eqb spare 0) ≡ every count (λ (k : ℕ). recordTest f (recordOf l k))
+looked-low f l count wrong least spare phases h g =
     let low : every count (λ (k : ℕ). phaseTest (recordOf l k)) ≡ true =
     every-of count (λ (k : ℕ). phaseTest (recordOf l k)) (λ (k : ℕ) (b : k < count). le-leb (numAt 4 (recordOf l k) 4) 999999 (omega (arith, h .2 k b))) in
-    sym (and-true (right && eqb spare 0)) ∙ looked-each f l count right spare phases h true (sym low)
+    sym (and-true (eqb wrong 0 && leb 1 least && eqb spare 0)) ∙ looked-each f l count wrong least spare phases h true (sym low)
 
 -- ---- a block
+front-refused : (h : Header) (m : List (List ℕ)) (l : List ℕ) (number : ℕ) (last : Bool) → frontFits l ≡ false → blockFits h m number last l ≡ false
+unfolding blockFits wellMadeEntries
+front-refused h m l number last e = rw (e, and-false (eqb (length l) 512))
+
 module _ (l : List ℕ) (sized : length l ≡ 512) (bytes : AreBytes l) where
   part-sized : (k : ℕ) → k < 15 → length (recordOf l k) ≡ 32
   unfolding recordOf
@@ -250,7 +261,7 @@ module _ (l : List ℕ) (sized : length l ≡ 512) (bytes : AreBytes l) where
         ∙ every-same count (λ (k : ℕ). w k && v k) (λ (k : ℕ). t k && c k) (λ (k : ℕ) (e : k < count). record-law h m f (recordOf l k) small known (part-sized k (omega arith)) (part-bytes k))
         ∙ every-both (λ (k : ℕ). t k && c k) t c (λ (k : ℕ). refl) count)
 
-    pub block-law : (number : ℕ) (last : Bool) → frontFits l ≡ true → blockFits h m number last l
+    block-law : (number : ℕ) (last : Bool) → frontFits l ≡ true → blockFits h m number last l
         ≡ (eqb (storedNumber l) number && ((last || eqb (countOf l) 15) && (tailFits l (countOf l) && (countsTest (h .n) (h .t) l && every (countOf l) (λ (k : ℕ). recordTest f (recordOf l k))))))
     unfolding blockFits wellMadeEntries bodyFits allKnown
     block-law number last front =
@@ -258,6 +269,28 @@ module _ (l : List ℕ) (sized : length l ≡ 512) (bytes : AreBytes l) where
         rw (eq-eqb (length l) 512 sized, front)
         (gather (every (countOf l) (λ (k : ℕ). wellMadeRecord (recordOf l k))) (tailFits l (countOf l)) (eqb (storedNumber l) number) (last || eqb (countOf l) 15) (every (countOf l) (λ (k : ℕ). recordKnown h m (parseRecord (recordOf l k)))) (countsTest (h .n) (h .t) l) (every (countOf l) (λ (k : ℕ). recordTest f (recordOf l k))) (λ (z : tailFits l (countOf l) ≡ true). records-law (countOf l) (p .2) (p .3) z))
 
-pub block-refused : (h : Header) (m : List (List ℕ)) (l : List ℕ) (number : ℕ) (last : Bool) → frontFits l ≡ false → blockFits h m number last l ≡ false
-unfolding blockFits wellMadeEntries
-block-refused h m l number last e = rw (e, and-false (eqb (length l) 512))
+    shuffle : (z c f : Bool) → (z && (c && f)) ≡ (f && (z && true) && c)
+    shuffle false c f = rw (and-false f)
+    shuffle true c f = rw (and-true f) (and-comm c f)
+
+    -- the tests of a block with right fields, in the order of the code
+    pub sound-law : (number : ℕ) (last : Bool) → fieldsFit l ≡ true → blockFits h m number last l
+        ≡ (eqb (storedNumber l) number && ((last || eqb (countOf l) 15) && (soundTest f l (countOf l) && countsTest (h .n) (h .t) l)))
+    unfolding frontFits soundTest
+    sound-law number last fields = go (sealed l) refl
+      where
+        records : Bool
+        records = every (countOf l) (λ (k : ℕ). recordTest f (recordOf l k))
+
+        go : (s : Bool) → sealed l ≡ s → blockFits h m number last l
+            ≡ (eqb (storedNumber l) number && ((last || eqb (countOf l) 15) && (records && (tailFits l (countOf l) && s) && countsTest (h .n) (h .t) l)))
+        go true e =
+            block-law number last (join (sealed l) (fieldsFit l) e fields)
+            ∙ ap (λ (t : Bool). eqb (storedNumber l) number && ((last || eqb (countOf l) 15) && t)) (shuffle (tailFits l (countOf l)) (countsTest (h .n) (h .t) l) records)
+        go false e =
+            rw (and-false (tailFits l (countOf l)), and-false records, and-false (last || eqb (countOf l) 15), and-false (eqb (storedNumber l) number))
+            (front-refused h m l number last (rw e))
+
+pub block-refused : (h : Header) (m : List (List ℕ)) (l : List ℕ) (number : ℕ) (last : Bool) → fieldsFit l ≡ false → blockFits h m number last l ≡ false
+unfolding frontFits
+block-refused h m l number last e = front-refused h m l number last (ap (λ (t : Bool). sealed l && t) e ∙ and-false (sealed l))

@@ -9,7 +9,8 @@ use lib.ListN.{length, getD}
 use Rattle.codec.specs.Num.{numAt}
 use Rattle.codec.specs.Every.{every}
 use Rattle.clock.specs.Range.{lastPhase, ceilingOf}
-use Rattle.entries.specs.Entries.{recordOf}
+use Rattle.checksum.specs.Check.{sealed}
+use Rattle.entries.specs.Entries.{recordOf, tailFits}
 
 -- ---- the counts
 -- the count of station i in place k of a block
@@ -65,7 +66,12 @@ unfoldable pub recordTest : List ℕ → List ℕ → Bool
 recordTest f l = frontTest f l && spareTest l && phaseTest l
 
 -- what is gathered of the first k records of a block; no phase is above what they are joined to
-abbrev pub Looked : List ℕ → List ℕ → ℕ → Bool → ℕ → ℕ → Type 0
-Looked f l k right spare phases =
-    (right ≡ every k (λ (i : ℕ). frontTest f (recordOf l i))) × (eqb spare 0 ≡ every k (λ (i : ℕ). spareTest (recordOf l i)))
+abbrev pub Looked : List ℕ → List ℕ → ℕ → ℕ → ℕ → ℕ → ℕ → Type 0
+Looked f l k wrong least spare phases =
+    ((eqb wrong 0 && leb 1 least) ≡ every k (λ (i : ℕ). frontTest f (recordOf l i))) × (eqb spare 0 ≡ every k (λ (i : ℕ). spareTest (recordOf l i)))
     × ((i : ℕ) → i < k → numAt 4 (recordOf l i) 4 ≤ phases)
+
+-- ---- a block
+-- the first `count` records, but for their counts, zeros behind them, and the check
+unfoldable pub soundTest : List ℕ → List ℕ → ℕ → Bool
+soundTest f l count = every count (λ (k : ℕ). recordTest f (recordOf l k)) && (tailFits l count && sealed l)

@@ -8,7 +8,7 @@ ghost use Rattle.codec.specs.Every.{every};
 ghost use Rattle.header.specs.Header.{parseHeader, tableAt};
 ghost use Rattle.entries.specs.Entries.{storedNumber, recordOf};
 ghost use Rattle.block_test.specs.BlockTest.{blockFits};
-ghost use Rattle.block_test.specs.Sweep.{countAt, countsTest, limitOf, Row, Fronts, placeOf, frontTest, phaseTest, recordTest, Looked};
+ghost use Rattle.block_test.specs.Sweep.{countAt, countsTest, limitOf, Row, Fronts, placeOf, frontTest, phaseTest, recordTest, Looked, soundTest};
 
 fn wide(x: u8) -> usize
     ensures { λ r. ⌜ (r ≡ x) × (r < 256) ⌝ }
@@ -124,24 +124,38 @@ fn smaller(x: u16, y: u16) -> u16
     if x < y { x } else { y }
 }
 
-// What is seen of a block's records, gathered with no branch: spare bytes and phases joined by `|`.
+// What is seen of a block's records, gathered with no branch: where first bytes are wrong, spare bytes and phases, each
+// joined by `|`. Of their stations' own counts the least is kept, or 1.
 struct Seen {
-    right: bool,
+    wrong: u32,
+    least: u16,
     spare: u32,
     phases: u32,
 }
 
-// The first `count` records of a block. Of their stations' own counts the least is kept.
-fn look(known: &[u32; 256], block: &[u8], count: usize) -> Seen
-    requires { ⌜ (length (now block) ≡ 512) × (count ≤ 15) ⌝ }
-    ensures { λ r. ⌜ Looked (now (known .entry)) (now (block .entry)) count (r .right) (r .spare) (r .phases) ⌝ }
+// What is seen of no record.
+fn unseen() -> Seen
+    ensures { λ r. ⌜ (r .wrong ≡ 0) × (r .least ≡ 1) × (r .spare ≡ 0) × (r .phases ≡ 0) ⌝ }
 {
-    let mut wrong: u32 = 0;
-    let mut least: u16 = 1;
-    let mut spare: u32 = 0;
-    let mut phases: u32 = 0;
-    let mut k = 0;
-    while k < count {
+    Seen {
+        wrong: 0,
+        least: 1,
+        spare: 0,
+        phases: 0,
+    }
+}
+
+// The first `end` records of a block, of which `from` have been seen before.
+fn look(known: &[u32; 256], block: &[u8], from: usize, end: usize, before: Seen) -> Seen
+    requires { ⌜ (length (now block) ≡ 512) × (from ≤ end) × (end ≤ 15) × Looked (now known) (now block) from (before .wrong) (before .least) (before .spare) (before .phases) ⌝ }
+    ensures { λ r. ⌜ Looked (now (known .entry)) (now (block .entry)) end (r .wrong) (r .least) (r .spare) (r .phases) ⌝ }
+{
+    let mut wrong = before.wrong;
+    let mut least = before.least;
+    let mut spare = before.spare;
+    let mut phases = before.phases;
+    let mut k = from;
+    while k < end {
         let o = entries::start_of(k);
         let e = o + 32;
         let part = &block[o..e];
@@ -153,7 +167,8 @@ fn look(known: &[u32; 256], block: &[u8], count: usize) -> Seen
         k += 1;
     }
     Seen {
-        right: (wrong == 0) & (1 <= least),
+        wrong,
+        least,
         spare,
         phases,
     }
@@ -175,18 +190,49 @@ fn phases_fit(block: &[u8], count: usize) -> bool
     ok
 }
 
-// The first `count` records of a block are well made and name only what the header has, but for their counts. No phase is
-// above all of them joined, so that they are looked at one by one only where that is too high.
-fn records_fit(known: &[u32; 256], block: &[u8], count: usize) -> bool
-    requires { ⌜ (length (now block) ≡ 512) × (count ≤ 15) ⌝ }
+// The first `count` records of a block are well made and name only what the header has, but for their counts; `from` have
+// been seen before. No phase is above all of them joined, so that they are looked at one by one only where that is too high.
+fn records_fit(known: &[u32; 256], block: &[u8], from: usize, count: usize, before: Seen) -> bool
+    requires { ⌜ (length (now block) ≡ 512) × (from ≤ count) × (count ≤ 15) × Looked (now known) (now block) from (before .wrong) (before .least) (before .spare) (before .phases) ⌝ }
     ensures { λ r. ⌜ r ≡ every count (λ (k : ℕ). recordTest (now (known .entry)) (recordOf (now (block .entry)) k)) ⌝ }
 {
-    let seen = look(known, block, count);
-    let fit = seen.right & (seen.spare == 0);
+    let seen = look(known, block, from, count, before);
+    let fit = (seen.wrong == 0) & (1 <= seen.least) & (seen.spare == 0);
     if seen.phases <= clock::LAST_PHASE {
         return fit;
     }
     fit & phases_fit(block, count)
+}
+
+// The records of a full block, but for their counts, zeros behind them, and the check. Columns of the check and records are
+// taken in turn, so that the processor adds up vectors while it looks up single numbers.
+fn full_fits(known: &[u32; 256], block: &[u8]) -> bool
+    requires { ⌜ length (now block) ≡ 512 ⌝ }
+    ensures { λ r. ⌜ r ≡ soundTest (now (known .entry)) (now (block .entry)) 15 ⌝ }
+{
+    let mut lows: [u16; 32] = [0; 32];
+    let mut highs: [u16; 32] = [0; 32];
+    let mut seen = unseen();
+    let mut t = 0;
+    while t < 3 {
+        checksum::fill_columns(block, t * 8, t * 8 + 8, &mut lows, &mut highs);
+        seen = look(known, block, t * 4, t * 4 + 4, seen);
+        t += 1;
+    }
+    checksum::fill_columns(block, 24, 32, &mut lows, &mut highs);
+    records_fit(known, block, 12, 15, seen) & checksum::sealed_columns(block, &lows, &highs)
+}
+
+// The first `count` records of a block, but for their counts, zeros behind them, and the check.
+fn sound(known: &[u32; 256], block: &[u8], count: usize) -> bool
+    requires { ⌜ (length (now block) ≡ 512) × (1 ≤ count) × (count ≤ 15) ⌝ }
+    ensures { λ r. ⌜ r ≡ soundTest (now (known .entry)) (now (block .entry)) count ⌝ }
+{
+    if count == 15 {
+        return full_fits(known, block);
+    }
+    records_fit(known, block, 0, count, unseen())
+        & (entries::tail_fits(block, count) & checksum::sealed(block))
 }
 
 fn number_of(block: &[u8]) -> usize
@@ -201,13 +247,11 @@ pub fn block_fits(head: &[u8], known: &[u32; 256], number: usize, last: bool, bl
     requires { ⌜ (length (now head) ≡ 512) × (parseHeader (now head) .n ≤ 8) × Fronts (parseHeader (now head) .n) (tableAt 8 (now head) 32) (now known) × (length (now block) ≡ 512) ⌝ }
     ensures { λ r. ⌜ r ≡ blockFits (parseHeader (now (head .entry))) (tableAt 8 (now (head .entry)) 32) number last (now (block .entry)) ⌝ }
 {
-    if !entries::front_fits(block) {
+    if !entries::fields_fit(block) {
         return false;
     }
     let count = entries::count_of(block);
     (number_of(block) == number)
         & ((last | (count == 15))
-            & (entries::tail_fits(block, count)
-                & (counts_fit(block, head[1], codec::get16(head, 2))
-                    & records_fit(known, block, count))))
+            & (sound(known, block, count) & counts_fit(block, head[1], codec::get16(head, 2))))
 }

@@ -7,7 +7,8 @@ use native.Mathlib.Numerals.{add-one}
 use native.Mathlib.Nat.{mul-le-mul}
 use lib.ListN.{length, getD, take, drop, length-take, length-drop, length-append, drop-of-length-le, take-append-drop}
 use lib.Seq.{take-suc, take-all, take-at, take-add, length-take-le}
-use mathlib.Core.Bool.{true}
+use mathlib.Core.Bool.{Bool, true, false, _&&_}
+use lib.Dec.{eqb}
 use borrow.Author.Tests.{eqb-true, eq-eqb}
 use Rattle.codec.specs.Num.{AreBytes, bytesOf, numAt}
 use Rattle.codec.specs.Splice.{splice}
@@ -92,3 +93,14 @@ pub zeros-behind : (l : List ℕ) (n m : ℕ) → n + m ≤ length l → allZero
 zeros-behind l n m h z =
     let e : take m (drop n l) ≡ blank m = zero-part l m n h z in
     rw (take-add n m l, weighted-append, e, zeros-weigh) (omega arith)
+
+-- the check of a block by its first 496 bytes, where zeros follow them
+pub sealed-short : (l : List ℕ) (w : ℕ) → 510 ≤ length l → w ≡ weighted 1 (take 496 l)
+    → (allZero (take 14 (drop 496 l)) && eqb (numAt 2 l 510) ((1 + w) % 65521)) ≡ (allZero (take 14 (drop 496 l)) && sealed l)
+unfolding sealed checkOf
+sealed-short l w n e = go (allZero (take 14 (drop 496 l))) refl
+  where
+    go : (t : Bool) → allZero (take 14 (drop 496 l)) ≡ t
+        → (t && eqb (numAt 2 l 510) ((1 + w) % 65521)) ≡ (t && eqb (numAt 2 l 510) ((1 + weighted 1 (take 510 l)) % 65521))
+    go true z = rw (e, zeros-behind l 496 14 (omega arith) z)
+    go false z = refl

@@ -9,7 +9,7 @@ use native.Mathlib.Decide.{ℕ-discrete}
 use lib.ListN.{length, getD, set, take}
 use lib.Seq.{getD-set-same, getD-set-other}
 use Rattle.checksum.specs.Check.{weighted}
-use Rattle.checksum.specs.Columns.{sumTo, columnSum, columnRows, columnShare, columnsTo}
+use Rattle.checksum.specs.Columns.{sumTo, columnSum, columnRows, columnShare, columnsTo, Filled}
 use Rattle.checksum.proofs.CheckLaws.{weighted-more, weighted-none}
 
 -- ---- sums
@@ -103,11 +103,6 @@ turn-rows l j (suc m) low high x z e f g =
     rw (p, b) (omega arith)
 
 -- ---- the arrays of the columns
--- what stands at column k
-abbrev pub Filled : List ℕ → List ℕ → List ℕ → ℕ → Type 0
-Filled l lows highs k =
-    (getD lows k 0 ≡ columnSum 15 l k) × (getD highs k 0 ≡ columnRows 15 l k) × (getD lows k 0 ≤ 3825) × (getD highs k 0 ≤ 53550)
-
 -- one column more
 pub filled-more : (l lows highs : List ℕ) (j x y : ℕ) → j < length lows → j < length highs → ((k : ℕ) → k < j → Filled l lows highs k)
     → (x ≡ columnSum 15 l j) × (y ≡ columnRows 15 l j) × (x ≤ 3825) × (y ≤ 53550) → (k : ℕ) → k < j + 1 → Filled l (set lows j x) (set highs j y) k

@@ -1,11 +1,11 @@
 // The check of a block: read, and written.
 ghost use mathlib.Core.Path.{_≡_};
-ghost use mathlib.Core.Bool.{true};
+ghost use mathlib.Core.Bool.{true, _&&_};
 ghost use Prim.Native.Nat.{_+_, _*_, _<_, _≤_};
 ghost use lib.ListN.{length, take, drop};
 ghost use Rattle.codec.specs.Every.{allZero};
 ghost use Rattle.checksum.specs.Check.{weighted, checkOf, sealed as Sealed, sealOf};
-ghost use Rattle.checksum.specs.Columns.{columnShare, columnSum, columnRows, columnsTo};
+ghost use Rattle.checksum.specs.Columns.{columnShare, columnSum, columnRows, columnsTo, Columns};
 
 // A block in bytes.
 pub const BLOCK: usize = 512;
@@ -42,28 +42,19 @@ fn column(s: &[u8], j: usize) -> Sums
     Sums { low, high }
 }
 
-// The sum of the first 480 bytes, each times its place from 1. The columns are vectorised: eight at a time, in 16 bits.
-fn weigh_columns(s: &[u8]) -> u32
-    requires { ⌜ 480 ≤ length (now s) ⌝ }
-    ensures { λ r. ⌜ (r ≡ columnsTo 15 32 (now (s .entry))) × (r ≤ 58752000) ⌝ }
+// Adds up the columns from `from` to before `end`, where those before `from` are there. They are vectorised: eight at a
+// time, in 16 bits.
+pub fn fill_columns(s: &[u8], from: usize, end: usize, lows: &mut [u16; 32], highs: &mut [u16; 32])
+    requires { ⌜ (480 ≤ length (now s)) × (from ≤ end) × (end ≤ 32) × Columns (now s) from (now lows) (now highs) ⌝ }
+    ensures { λ _. ⌜ Columns (now (s .entry)) end (now (lows .exit)) (now (highs .exit)) ⌝ }
 {
-    let mut lows: [u16; 32] = [0; 32];
-    let mut highs: [u16; 32] = [0; 32];
-    let mut j = 0;
-    while j < 32 {
+    let mut j = from;
+    while j < end {
         let c = column(s, j);
         lows[j] = c.low;
         highs[j] = c.high;
         j += 1;
     }
-    let mut sum: u32 = 0;
-    let mut k: u32 = 0;
-    while k < 32 {
-        let at = k as usize;
-        sum += share(k, lows[at], highs[at]);
-        k += 1;
-    }
-    sum
 }
 
 // The sum of the first `end` bytes, each times its place from 1, from that of the first `i`.
@@ -81,13 +72,31 @@ fn weigh_on(s: &[u8], i: u32, end: u32, sum: u32) -> u32
     all
 }
 
+// The sum of the first 496 bytes, each times its place from 1, by their columns.
+fn weigh_columns(s: &[u8], lows: &[u16; 32], highs: &[u16; 32]) -> u32
+    requires { ⌜ (510 ≤ length (now s)) × Columns (now s) 32 (now lows) (now highs) ⌝ }
+    ensures { λ r. ⌜ (r ≡ weighted 1 (take 496 (now (s .entry)))) × (r ≤ 64504800) ⌝ }
+{
+    let mut sum: u32 = 0;
+    let mut k: u32 = 0;
+    while k < 32 {
+        let at = k as usize;
+        sum += share(k, lows[at], highs[at]);
+        k += 1;
+    }
+    weigh_on(s, 480, 496, sum)
+}
+
 // The sum of the first 510 bytes, each times its place from 1: at most 510 times 255 times 510, so that 32 bits hold it.
 // The last fourteen, which are zero in an entries block, are added only where they are not.
 fn weigh(s: &[u8]) -> u32
     requires { ⌜ 510 ≤ length (now s) ⌝ }
     ensures { λ r. ⌜ (r ≡ weighted 1 (take 510 (now (s .entry)))) × (r ≤ 66325500) ⌝ }
 {
-    let sum = weigh_on(s, 480, 496, weigh_columns(s));
+    let mut lows: [u16; 32] = [0; 32];
+    let mut highs: [u16; 32] = [0; 32];
+    fill_columns(s, 0, 32, &mut lows, &mut highs);
+    let sum = weigh_columns(s, &lows, &highs);
     if codec::zeros(&s[496..510]) {
         return sum;
     }
@@ -108,6 +117,15 @@ pub fn sealed(s: &[u8]) -> bool
     ensures { λ r. ⌜ r ≡ Sealed (now (s .entry)) ⌝ }
 {
     codec::get16(s, 510) == check(s)
+}
+
+// The same by the columns of a block, with zeros in the fourteen bytes before the check, which then count for nothing.
+pub fn sealed_columns(s: &[u8], lows: &[u16; 32], highs: &[u16; 32]) -> bool
+    requires { ⌜ (length (now s) ≡ 512) × Columns (now s) 32 (now lows) (now highs) ⌝ }
+    ensures { λ r. ⌜ r ≡ (allZero (take 14 (drop 496 (now (s .entry)))) && Sealed (now (s .entry))) ⌝ }
+{
+    let sum = weigh_columns(s, lows, highs);
+    codec::zeros(&s[496..510]) & (codec::get16(s, 510) == ((1 + sum) % 65521) as u16)
 }
 
 // What column j of three rows comes to, each byte times its place from 1: 16 bits hold it.

@@ -21,7 +21,7 @@ use Rattle.checksum.proofs.CheckLaws.{seal-length, seal-seals, sealed-is}
 use Rattle.checksum.proofs.OneByte.{one-byte}
 use Rattle.record.specs.Record.{wellMadeRecord}
 use Rattle.entries.specs.Starts.{recordStarts, recordStart, recordsEnd}
-use Rattle.entries.specs.Entries.{countOf, storedNumber, recordOf, frontFits, bodyFits, wellMadeEntries, entriesBody, imageEntries, recordsFit, entriesFit}
+use Rattle.entries.specs.Entries.{countOf, storedNumber, recordOf, fieldsFit, frontFits, bodyFits, wellMadeEntries, entriesBody, imageEntries, recordsFit, entriesFit}
 
 pub body-length : (number : ℕ) (rs : List ℕ) → length rs ≤ 480 → length (entriesBody number rs) ≡ 510
 unfolding entriesBody
@@ -76,17 +76,23 @@ records-part l count h =
     (λ (k : ℕ) (b : k < count). ap wellMadeRecord (part-part l 32 (k * 32) (count * 32) 16 (omega arith) ∙ ap (λ (x : ℕ). take 32 (drop x l)) (sym (start-is k (omega arith)))))
 
 -- ---- the tests, part by part
+pub fields-parts : (l : List ℕ) → fieldsFit l ≡ true
+    → (getD l 0 0 ≡ 2) × (1 ≤ countOf l) × (countOf l ≤ 15) × (numAt 2 l 2 ≡ 0) × (1 ≤ storedNumber l) × (allZero (take 8 (drop 8 l)) ≡ true)
+fields-parts l h =
+    let b = both (eqb (getD l 0 0) 2) _ h in
+    let d = both (leb 1 (countOf l)) _ (b .1) in
+    let e = both (leb (countOf l) 15) _ (d .1) in
+    let f = both (eqb (numAt 2 l 2) 0) _ (e .1) in
+    let g = both (leb 1 (storedNumber l)) _ (f .1) in
+    (eqb-true _ _ (b .0), leb-true _ _ (d .0), leb-true _ _ (e .0), eqb-true _ _ (f .0), leb-true _ _ (g .0), g .1)
+
 pub front-parts : (l : List ℕ) → frontFits l ≡ true
     → (sealed l ≡ true) × (getD l 0 0 ≡ 2) × (1 ≤ countOf l) × (countOf l ≤ 15) × (numAt 2 l 2 ≡ 0) × (1 ≤ storedNumber l) × (allZero (take 8 (drop 8 l)) ≡ true)
 unfolding frontFits
 front-parts l h =
     let a = both (sealed l) _ h in
-    let b = both (eqb (getD l 0 0) 2) _ (a .1) in
-    let d = both (leb 1 (countOf l)) _ (b .1) in
-    let e = both (leb (countOf l) 15) _ (d .1) in
-    let f = both (eqb (numAt 2 l 2) 0) _ (e .1) in
-    let g = both (leb 1 (storedNumber l)) _ (f .1) in
-    (a .0, eqb-true _ _ (b .0), leb-true _ _ (d .0), leb-true _ _ (e .0), eqb-true _ _ (f .0), leb-true _ _ (g .0), g .1)
+    let p = fields-parts l (a .1) in
+    (a .0, p .0, p .1, p .2, p .3, p .4, p .5)
 
 pub well-made-parts : (l : List ℕ) → wellMadeEntries l ≡ true → (length l ≡ 512) × (frontFits l ≡ true) × (bodyFits l (countOf l) ≡ true)
 unfolding wellMadeEntries

@@ -25,11 +25,15 @@ storedNumber l = numAt 4 l 4
 unfoldable pub recordOf : List ℕ → ℕ → List ℕ
 recordOf l k = take 32 (drop (recordStart k) l)
 
--- the check, kind 2, one to fifteen records, a block number from 1, and the unnamed bytes before the records
+-- kind 2, one to fifteen records, a block number from 1, and the unnamed bytes before the records
+abbrev pub fieldsFit : List ℕ → Bool
+fieldsFit l =
+    eqb (getD l 0 0) 2 && (leb 1 (countOf l) && (leb (countOf l) 15
+    && (eqb (numAt 2 l 2) 0 && (leb 1 (storedNumber l) && allZero (take 8 (drop 8 l))))))
+
+-- the check and the fields
 unfoldable pub frontFits : List ℕ → Bool
-frontFits l =
-    sealed l && (eqb (getD l 0 0) 2 && (leb 1 (countOf l) && (leb (countOf l) 15
-    && (eqb (numAt 2 l 2) 0 && (leb 1 (storedNumber l) && allZero (take 8 (drop 8 l)))))))
+frontFits l = sealed l && fieldsFit l
 
 -- the places past the last record are zero up to the check
 abbrev pub tailFits : List ℕ → ℕ → Bool

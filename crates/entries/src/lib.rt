@@ -5,7 +5,7 @@ ghost use Prim.Native.Nat.{_≤_, _<_, _*_};
 ghost use lib.ListN.{length};
 ghost use Rattle.codec.specs.Splice.{splice};
 ghost use Rattle.entries.specs.Starts.{recordStart};
-ghost use Rattle.entries.specs.Entries.{countOf, frontFits, recordsFit, tailFits, bodyFits, wellMadeEntries, imageEntries, entriesFit, writeEntries, readEntries, readRecord};
+ghost use Rattle.entries.specs.Entries.{countOf, fieldsFit, frontFits, recordsFit, tailFits, bodyFits, wellMadeEntries, imageEntries, entriesFit, writeEntries, readEntries, readRecord};
 
 // What a block reader finds: the block's number and its count of records, or a refusal's number.
 pub enum EntriesRead {
@@ -38,16 +38,23 @@ fn records_fit(rs: &[u8], count: usize) -> bool
     true
 }
 
-pub fn front_fits(s: &[u8]) -> bool
+// The fields and the spare bytes before the records.
+pub fn fields_fit(s: &[u8]) -> bool
+    requires { ⌜ length (now s) ≡ 512 ⌝ }
+    ensures { λ r. ⌜ r ≡ fieldsFit (now (s .entry)) ⌝ }
+{
+    (s[0] == 2)
+        & ((1 <= s[1])
+            & ((s[1] <= 15)
+                & ((codec::get16(s, 2) == 0)
+                    & ((1 <= codec::get32(s, 4)) & codec::zeros(&s[8..16])))))
+}
+
+fn front_fits(s: &[u8]) -> bool
     requires { ⌜ length (now s) ≡ 512 ⌝ }
     ensures { λ r. ⌜ r ≡ frontFits (now (s .entry)) ⌝ }
 {
-    checksum::sealed(s)
-        & ((s[0] == 2)
-            & ((1 <= s[1])
-                & ((s[1] <= 15)
-                    & ((codec::get16(s, 2) == 0)
-                        & ((1 <= codec::get32(s, 4)) & codec::zeros(&s[8..16]))))))
+    checksum::sealed(s) & fields_fit(s)
 }
 
 // The count of records of a block.

@@ -1,27 +1,20 @@
-use Prim.Native.Nat.{ℕ, _+_, _-_, _≤_, _<_}
-use mathlib.Core.Path.{_≡_, refl, sym}
-use mathlib.Core.Bool.{_&&_}
+use Prim.Native.Nat.{_-_, _≤_}
+use mathlib.Core.Path.{_≡_}
 use native.Mathlib.Omega.{arith}
-use lib.Dec.{eqb, leb}
 use denote.Ref.{now}
 use borrow.Author.Needs.{needs}
 use lib.ListN.{length-take, length-drop}
-use Rattle.codec.proofs.EveryLaws.{every-none}
-use Rattle.entries.specs.Entries.{recordOf}
 use Rattle.entries.proofs.Laws.{start-is, part-record}
 use Rattle.block_test.specs.Sweep.{Looked}
-use Rattle.block_test.proofs.SweepLaws.{front-more, looked-more}
+use Rattle.block_test.proofs.SweepLaws.{looked-more}
 use Rattle.block_test.proofs.look.Statement.{statement}
 use Rattle.block_test.proofs.look.Tie as tie
 
 abbrev Inv-loop : tie.InvT-loop
-Inv-loop known block count wrong₀ least₀ spare₀ phases₀ k₀ wrong least spare phases k = (k ≤ count) × Looked known block k (eqb wrong 0 && leb 1 least) spare phases
+Inv-loop known block from end wrong₀ least₀ spare₀ phases₀ k₀ wrong least spare phases k = (k ≤ end) × Looked known block k wrong least spare phases
 
 abbrev μ-loop : tie.MeasureT-loop
-μ-loop known block count wrong₀ least₀ spare₀ phases₀ k₀ wrong least spare phases k = count - k
-
-loop-holds : tie.Need-loop-holds Inv-loop μ-loop
-loop-holds c = (omega arith, (sym (every-none _), sym (every-none _), λ (i : ℕ) (b : i < 0). absurd (omega arith)))
+μ-loop known block from end wrong₀ least₀ spare₀ phases₀ k₀ wrong least spare phases k = end - k
 
 add-e : tie.Need-add-e Inv-loop μ-loop
 add-e c = omega (arith, start-is (c .before .before .loop .k) (omega arith), c .start-of .ensures)
@@ -50,19 +43,18 @@ loop-again c =
     let x = rw p at (c .before .before .before .before .before .before .get32 .ensures) in
     let d = c .before .before .before .before .before .differ in
     let own = rw (p, c .before .before .before .before .place-of .ensures .0, x) at (c .before .before .before .get16 .ensures) in
-    let f = front-more (now (a .known)) (recordOf (now (a .block)) (l .k)) (l .wrong) (l .least) (d .result) (c .before .before .before .get16 .result) (rw x at (d .ensures)) own in
     let s = rw p at (c .before .get322 .ensures) in
     let t = rw p at (c .get323 .ensures) in
-    (omega arith, rw (c .before .before .smaller .ensures, f, s, t) (looked-more (now (a .known)) (now (a .block)) (l .k) (eqb (l .wrong) 0 && leb 1 (l .least)) (l .spare) (l .phases) (l .inv .1)))
+    (omega arith, rw (c .before .before .smaller .ensures, s, t) (looked-more (now (a .known)) (now (a .block)) (l .k) (l .wrong) (l .least) (l .spare) (l .phases) (d .result) (c .before .before .before .get16 .result) (l .inv .1) (rw x at (d .ensures)) own))
 
 returns : tie.Need-returns Inv-loop μ-loop
 returns c =
-    let e : c .before .loop .k ≡ c .before .before .before .args .count = omega arith in
+    let e : c .before .loop .k ≡ c .before .before .before .args .end = omega arith in
     rw e at (c .before .loop .inv .1)
 
 pub look-spec : {M : Type 1} → statement M
 look-spec =
     tie.close
-    (tie.spec Inv-loop μ-loop loop-holds (λ c κs. omega arith) add-e (λ c. omega arith) (λ c. omega arith) part-part-end
+    (tie.spec Inv-loop μ-loop (λ c. (omega arith, c .before .pre .3)) (λ c κs. omega arith) add-e (λ c. omega arith) (λ c. omega arith) part-part-end
     get32-requires (λ c κs. search needs) (λ c κs. search needs) (λ c. omega arith) (λ c. omega arith) get16-requires
     (λ c κs. search needs) get32-requires-2 get32-requires-3 (λ c. omega arith) (λ c. omega arith) loop-again returns)

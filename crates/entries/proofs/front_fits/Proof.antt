@@ -5,10 +5,7 @@ use Rattle.entries.proofs.front_fits.Tie as tie
 
 returns : tie.Need-returns
 unfolding frontFits
-returns c = cc
+returns c = rw (c .before .sealed .ensures, c .fields-fit .ensures)
 
 pub front-fits-spec : {M : Type 1} → statement M
-front-fits-spec =
-    tie.close
-    (tie.spec (λ c κs. search needs) (λ c. search needs) (λ c. search needs) (λ c. search needs) (λ c κs. search needs)
-    (λ c κs. search needs) (λ c. search needs) (λ c. search needs) (λ c. search needs) (λ c κs. search needs) returns)
+front-fits-spec = tie.close (tie.spec (λ c κs. search needs) (λ c κs. search needs) returns)
