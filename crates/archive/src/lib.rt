@@ -4,7 +4,7 @@ ghost use mathlib.Core.Bool.{true};
 ghost use Prim.Native.Nat.{_≤_, _+_, _*_};
 ghost use lib.ListN.{length};
 ghost use Rattle.header.specs.Header.{parseHeader, tableAt};
-ghost use Rattle.block_test.specs.Sweep.{Fronts};
+ghost use Rattle.front_table.specs.Fronts.{Fronts};
 ghost use Rattle.archive.specs.Archive.{blocksFit, archiveTest, records as recordsOf, recordAt, countRecords, findRecord, foundRecord};
 
 // How many there are, or a refusal's number.
@@ -50,7 +50,7 @@ pub fn test(a: &[u8]) -> bool
     if n == 0 {
         return true;
     }
-    let known = block_test::fronts(head, head[1]);
+    let known = front_table::fronts(head, head[1]);
     blocks_fit(a, head, &known, n)
 }
 

@@ -1,15 +1,14 @@
 -- The links read as items and runs of zeros: what stands between the items of one link and those of the next that has some is one run. Assumes nothing.
-use Prim.Native.Nat.{ℕ, zero, suc, _+_, _*_, _-_, _/_, _%_, _≤_, _<_}
+use Prim.Native.Nat.{ℕ, _+_, _*_, _-_, _/_, _%_, _≤_, _<_}
 use mathlib.Core.Path.{_≡_, refl, _∙_, sym, ap}
 use mathlib.Core.List.{List, []}
 use mathlib.Core.Bool.{Bool, true, false, _&&_, true≢false}
 use native.Mathlib.Omega.{arith}
-use lib.Dec.{eqb, leb}
 use lib.ListN.{length, getD, take, drop, length-take, length-drop}
 use lib.Seq.{take-all, take-add, drop-at, drop-drop, getD-take, getD-drop}
-use borrow.Author.Tests.{eq-eqb, ne-eqb, leb-true}
+use borrow.Author.Tests.{eq-eqb}
 use Rattle.codec.specs.Every.{every, total, allZero}
-use Rattle.codec.proofs.EveryLaws.{both, join, every-none, zeros-total, every-at, every-of, total-append}
+use Rattle.codec.proofs.EveryLaws.{both, join, every-none, zeros-total, every-at, every-of, total-append, zero-sum}
 use Rattle.codec.proofs.FlagLaws.{every-turn}
 use Rattle.reset.specs.Config.{Config, places}
 use Rattle.link.specs.Image.{itemsTest, linkTest, sized}
@@ -17,13 +16,9 @@ use Rattle.link.proofs.Laws.{link-parts, link-idle, items-few}
 use Rattle.area.specs.Layout.{linkBytes, linkTestAt, linksTest}
 
 -- ---- runs of zeros
-sum-zero : (x y : ℕ) → eqb (x + y) 0 ≡ (eqb x 0 && eqb y 0)
-sum-zero zero y = let e : 0 + y ≡ y = omega arith in rw e
-sum-zero (suc x) y = rw (ne-eqb (suc x) 0 (λ (e : suc x ≡ 0). omega arith), ne-eqb (suc x + y) 0 (λ (e : suc x + y ≡ 0). omega arith))
-
 -- a run in two parts
 run-split : (l : List ℕ) (i w v : ℕ) → allZero (take (w + v) (drop i l)) ≡ (allZero (take w (drop i l)) && allZero (take v (drop (i + w) l)))
-run-split l i w v = rw (take-add, drop-drop, total-append) (sum-zero (total (take w (drop i l))) (total (take v (drop (i + w) l))))
+run-split l i w v = rw (take-add, drop-drop, total-append) (zero-sum (total (take w (drop i l))) (total (take v (drop (i + w) l))))
 
 drop-take : (n m : ℕ) (l : List ℕ) → n ≤ length l → drop n (take (n + m) l) ≡ take m (drop n l)
 drop-take n m l h = ap (drop n) (take-add n m l) ∙ drop-at (take n l) (take m (drop n l)) n (rw length-take (omega arith))

@@ -2,8 +2,7 @@
 ghost use mathlib.Core.Path.{_≡_};
 ghost use mathlib.Core.Bool.{true, _&&_};
 ghost use Prim.Native.Nat.{_-_, _*_, _+_, _/_, _%_, _≤_, _<_};
-ghost use lib.ListN.{length, take, drop, getD};
-ghost use Rattle.codec.specs.Num.{numAt};
+ghost use lib.ListN.{length, take, drop};
 ghost use Rattle.codec.specs.Every.{allZero};
 ghost use Rattle.reset.specs.Config.{wellMade, places};
 ghost use Rattle.rules.specs.Setup.{blockConfig};

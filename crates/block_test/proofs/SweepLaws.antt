@@ -6,7 +6,7 @@ use mathlib.Core.Bool.{Bool, true, false, _&&_, _||_, cond, and-false}
 use native.Mathlib.Omega.{arith}
 use native.Mathlib.Decide.{decLt}
 use lib.Dec.{eqb, leb, ltb}
-use lib.Bits.{bitOr, bitXor, or-add-and, xor-add-and, xor-self, and-le-l, and-le-r}
+use lib.Bits.{bitOr, or-add-and, and-le-l, and-le-r}
 use lib.ListN.{length, getD, take, drop, length-take, length-drop}
 use lib.Seq.{getD-take, getD-drop}
 use borrow.Author.Tests.{eq-eqb, eqb-true, ltb-true, lt-ltb, leb-true, le-leb}
@@ -24,8 +24,9 @@ use Rattle.entries.specs.Starts.{recordStart, recordsEnd}
 use Rattle.checksum.specs.Check.{sealed}
 use Rattle.entries.specs.Entries.{countOf, storedNumber, recordOf, fieldsFit, frontFits, tailFits, bodyFits, wellMadeEntries}
 use Rattle.entries.proofs.Laws.{start-is, end-is, front-parts}
+use Rattle.front_table.specs.Fronts.{Fronts, placeOf}
 use Rattle.block_test.specs.BlockTest.{peerKnown, recordKnown, allKnown, blockFits}
-use Rattle.block_test.specs.Sweep.{countAt, countsTest, Fronts, placeOf, frontTest, spareTest, phaseTest, recordTest, Looked, soundTest}
+use Rattle.block_test.specs.Sweep.{countAt, countsTest, frontTest, spareTest, phaseTest, recordTest, Looked, soundTest}
 use Rattle.block_test.proofs.FrontLaws.{front-back, front-right}
 
 -- ---- tests
@@ -33,12 +34,6 @@ same-test : (a b : Bool) → (a ≡ true → b ≡ true) → (b ≡ true → a �
 same-test true b f g = sym (f refl)
 same-test false true f g = g refl
 same-test false false f g = refl
-
--- no bit differs in equal numbers alone
-pub xor-zero : (a b : ℕ) → eqb (bitXor a b) 0 ≡ eqb a b
-xor-zero a b =
-    same-test _ _ (λ (e : eqb (bitXor a b) 0 ≡ true). let z : bitXor a b ≡ 0 = eqb-true _ _ e in eq-eqb a b (omega (arith, xor-add-and a b, and-le-l a b, and-le-r a b)))
-    (λ (e : eqb a b ≡ true). let q : a ≡ b = eqb-true _ _ e in rw (q, xor-self b))
 
 -- a test of every pair, by the one or by the other
 every-swap : (n k : ℕ) (p : ℕ → ℕ → Bool) → every n (λ (i : ℕ). every k (p i)) ≡ every k (λ (j : ℕ). every n (λ (i : ℕ). p i j))

@@ -1,20 +1,14 @@
 // The test of an entries block in an archive, of all its records together.
 ghost use mathlib.Core.Path.{_≡_};
-ghost use mathlib.Core.Bool.{cond};
 ghost use Prim.Native.Nat.{ℕ, min, _≤_, _<_, _+_, _*_, _/_};
 ghost use lib.Dec.{eqb, leb};
-ghost use lib.ListN.{length, getD};
+ghost use lib.ListN.{length};
 ghost use Rattle.codec.specs.Every.{every};
 ghost use Rattle.header.specs.Header.{parseHeader, tableAt};
 ghost use Rattle.entries.specs.Entries.{storedNumber, recordOf};
 ghost use Rattle.block_test.specs.BlockTest.{blockFits};
-ghost use Rattle.block_test.specs.Sweep.{countAt, countsTest, limitOf, Row, Fronts, placeOf, frontTest, phaseTest, recordTest, Looked, soundTest};
-
-fn wide(x: u8) -> usize
-    ensures { λ r. ⌜ (r ≡ x) × (r < 256) ⌝ }
-{
-    x as usize
-}
+ghost use Rattle.front_table.specs.Fronts.{Fronts};
+ghost use Rattle.block_test.specs.Sweep.{countAt, countsTest, phaseTest, recordTest, Looked, soundTest};
 
 // By how much a count is above m.
 fn above(x: u16, m: u16) -> u16
@@ -51,71 +45,6 @@ fn counts_fit(block: &[u8], n: u8, t: u16) -> bool
         j += 1;
     }
     ok
-}
-
-fn front(stands: bool, x: usize, other: u32) -> u32
-    requires { ⌜ x < 4294967296 ⌝ }
-    ensures { λ r. ⌜ r ≡ cond stands x other ⌝ }
-{
-    if stands { x as u32 } else { other }
-}
-
-// The limit of the link that a sent (2) or received (3) record of station s and peer p names.
-fn limit(head: &[u8], kind: usize, s: usize, p: usize) -> u8
-    requires { ⌜ (length (now head) ≡ 512) × (s < 8) × (p < 8) ⌝ }
-    ensures { λ r. ⌜ r ≡ limitOf (tableAt 8 (now (head .entry)) 32) kind s p ⌝ }
-{
-    if kind == 2 {
-        return head[32 + (s * 8 + p)];
-    }
-    head[32 + (p * 8 + s)]
-}
-
-// The records of a kind with peer p, one for each station.
-fn fill(r: &mut [u32; 256], head: &[u8], top: usize, kind: usize, p: usize)
-    requires { ⌜ (length (now r) ≡ 256) × (length (now head) ≡ 512) × (2 ≤ kind) × (kind ≤ 3) × (p < 8) ⌝ }
-    ensures { λ _. ⌜ Row top (tableAt 8 (now (head .entry)) 32) (kind * 8 + p) 8 (now (r .entry)) (now (r .exit)) ⌝ }
-{
-    let q = kind * 8 + p;
-    let mut s = 0;
-    while s < 8 {
-        let stands = (p < top) & (s != p) & (0 < limit(head, kind, s, p));
-        r[q * 8 + s] = front(stands, kind + (256 * s + 65536 * p), 458752);
-        s += 1;
-    }
-}
-
-// The first four bytes of the records that a header allows, as numbers, each in the place where it is looked up; elsewhere
-// a number that is looked up in another place. A station that the header lacks has no count, which shuts its records out.
-pub fn fronts(head: &[u8], n: u8) -> [u32; 256]
-    requires { ⌜ length (now head) ≡ 512 ⌝ }
-    ensures { λ r. ⌜ Fronts n (tableAt 8 (now (head .entry)) 32) r ⌝ }
-{
-    let top = wide(n);
-    let mut r: [u32; 256] = [458752; 256];
-    let mut p = 0;
-    while p < 8 {
-        r[56 + p] = (16711681 + 256 * p) as u32;
-        fill(&mut r, head, top, 2, p);
-        fill(&mut r, head, top, 3, p);
-        p += 1;
-    }
-    r
-}
-
-// Where a record's first four bytes are looked up.
-fn place_of(x: u32) -> usize
-    ensures { λ r. ⌜ (r ≡ placeOf x) × (r < 256) ⌝ }
-{
-    let y = x as u64;
-    (y * 1073809408 / 16777216 % 256) as usize
-}
-
-// Where a record's first four bytes differ from what stands in their place: 0 where they are right.
-fn differ(known: &[u32; 256], x: u32) -> u32
-    ensures { λ r. ⌜ eqb r 0 ≡ eqb (getD (now (known .entry)) (placeOf x) 0) x ⌝ }
-{
-    known[place_of(x)] ^ x
 }
 
 fn smaller(x: u16, y: u16) -> u16
@@ -160,8 +89,11 @@ fn look(known: &[u32; 256], block: &[u8], from: usize, end: usize, before: Seen)
         let e = o + 32;
         let part = &block[o..e];
         let x = codec::get32(part, 0);
-        wrong = wrong | differ(known, x);
-        least = smaller(codec::get16(part, 16 + 2 * (place_of(x) % 8)), least);
+        wrong = wrong | front_table::differ(known, x);
+        least = smaller(
+            codec::get16(part, 16 + 2 * (front_table::place_of(x) % 8)),
+            least,
+        );
         spare = spare | codec::get32(part, 12);
         phases = phases | codec::get32(part, 4);
         k += 1;

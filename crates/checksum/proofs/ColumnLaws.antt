@@ -8,52 +8,49 @@ use native.Mathlib.Nat.{zero-mul, suc-mul, mul-le-mul}
 use native.Mathlib.Decide.{ℕ-discrete}
 use lib.ListN.{length, getD, set, take}
 use lib.Seq.{getD-set-same, getD-set-other}
+use Rattle.codec.specs.Every.{sum}
+use Rattle.codec.proofs.EveryLaws.{sum-more}
 use Rattle.checksum.specs.Check.{weighted}
-use Rattle.checksum.specs.Columns.{sumTo, columnSum, columnRows, columnShare, columnsTo, Filled}
+use Rattle.checksum.specs.Columns.{columnSum, columnRows, columnShare, columnsTo, SumsAt}
 use Rattle.checksum.proofs.CheckLaws.{weighted-more, weighted-none}
 
 -- ---- sums
--- one number more
-pub sum-more : (n : ℕ) (f : ℕ → ℕ) → sumTo (n + 1) f ≡ sumTo n f + f n
-unfolding sumTo
-sum-more n f = rw add-one
-
 -- sums of numbers that agree
-sum-same : (n : ℕ) (f g : ℕ → ℕ) → ((i : ℕ) → f i ≡ g i) → sumTo n f ≡ sumTo n g
-unfolding sumTo
+sum-same : (n : ℕ) (f g : ℕ → ℕ) → ((i : ℕ) → f i ≡ g i) → sum n f ≡ sum n g
+unfolding sum
 sum-same zero f g h = refl
 sum-same (suc n) f g h = omega (arith, sum-same n f g h, h n)
 
 -- a sum in two parts
-sum-add : (n m : ℕ) (f : ℕ → ℕ) → sumTo (n + m) f ≡ sumTo n f + sumTo m (λ (i : ℕ). f (n + i))
-unfolding sumTo
+sum-add : (n m : ℕ) (f : ℕ → ℕ) → sum (n + m) f ≡ sum n f + sum m (λ (i : ℕ). f (n + i))
+unfolding sum
 sum-add n zero f = let e : n + 0 ≡ n = omega arith in rw e (omega arith)
 sum-add n (suc m) f = let e : n + suc m ≡ suc (n + m) = omega arith in rw e (omega (arith, sum-add n m f))
 
 -- two sums in one
-sum-both : (n : ℕ) (f g : ℕ → ℕ) → sumTo n (λ (i : ℕ). f i + g i) ≡ sumTo n f + sumTo n g
-unfolding sumTo
+sum-both : (n : ℕ) (f g : ℕ → ℕ) → sum n (λ (i : ℕ). f i + g i) ≡ sum n f + sum n g
+unfolding sum
 sum-both zero f g = refl
 sum-both (suc n) f g = omega (arith, sum-both n f g)
 
-sum-zero : (n : ℕ) → sumTo n (λ (i : ℕ). 0) ≡ 0
-unfolding sumTo
+sum-zero : (n : ℕ) → sum n (λ (i : ℕ). 0) ≡ 0
+unfolding sum
 sum-zero zero = refl
 sum-zero (suc n) = omega (arith, sum-zero n)
 
 -- n rows of w numbers, added up by the columns
-by-columns : (w n : ℕ) (f : ℕ → ℕ) → sumTo (n * w) f ≡ sumTo w (λ (j : ℕ). sumTo n (λ (r : ℕ). f (r * w + j)))
-unfolding sumTo
+by-columns : (w n : ℕ) (f : ℕ → ℕ) → sum (n * w) f ≡ sum w (λ (j : ℕ). sum n (λ (r : ℕ). f (r * w + j)))
+unfolding sum
 by-columns w zero f = rw zero-mul (sym (sum-zero w))
 by-columns w (suc n) f =
     rw suc-mul
     (sum-add (n * w) w f
-    ∙ ap (λ (x : ℕ). x + sumTo w (λ (j : ℕ). f (n * w + j))) (by-columns w n f)
-    ∙ sym (sum-both w (λ (j : ℕ). sumTo n (λ (r : ℕ). f (r * w + j))) (λ (j : ℕ). f (n * w + j))))
+    ∙ ap (λ (x : ℕ). x + sum w (λ (j : ℕ). f (n * w + j))) (by-columns w n f)
+    ∙ sym (sum-both w (λ (j : ℕ). sum n (λ (r : ℕ). f (r * w + j))) (λ (j : ℕ). f (n * w + j))))
 
 -- the weighted sum by the places
-by-places : (l : List ℕ) (n : ℕ) → n ≤ length l → weighted 1 (take n l) ≡ sumTo n (λ (p : ℕ). (p + 1) * getD l p 0)
-unfolding sumTo
+by-places : (l : List ℕ) (n : ℕ) → n ≤ length l → weighted 1 (take n l) ≡ sum n (λ (p : ℕ). (p + 1) * getD l p 0)
+unfolding sum
 by-places l zero h = weighted-none
 by-places l (suc n) h = let m = weighted-more l n (omega arith) in let e : n + 1 ≡ suc n = omega arith in (rw e at m) ∙ omega (arith, by-places l n (omega arith))
 
@@ -71,16 +68,16 @@ unfolding columnsTo
 columns-more n k l = sum-more k (columnShare n l)
 
 pub none : (l : List ℕ) (j : ℕ) → (columnSum 0 l j ≡ 0) × (columnRows 0 l j ≡ 0)
-unfolding sumTo columnSum columnRows
+unfolding sum columnSum columnRows
 none l j = (refl, refl)
 
 pub no-columns : (n : ℕ) (l : List ℕ) → columnsTo n 0 l ≡ 0
-unfolding sumTo columnsTo
+unfolding sum columnsTo
 no-columns n l = refl
 
 -- what a column of n rows comes to
-of-column : (n : ℕ) (l : List ℕ) (j : ℕ) → sumTo n (λ (r : ℕ). (r * 32 + j + 1) * getD l (r * 32 + j) 0) ≡ columnShare n l j
-unfolding sumTo columnSum columnRows columnShare
+of-column : (n : ℕ) (l : List ℕ) (j : ℕ) → sum n (λ (r : ℕ). (r * 32 + j + 1) * getD l (r * 32 + j) 0) ≡ columnShare n l j
+unfolding sum columnSum columnRows columnShare
 of-column zero l j = omega arith
 of-column (suc n) l j = omega (arith, of-column n l j)
 
@@ -104,11 +101,11 @@ turn-rows l j (suc m) low high x z e f g =
 
 -- ---- the arrays of the columns
 -- one column more
-pub filled-more : (l lows highs : List ℕ) (j x y : ℕ) → j < length lows → j < length highs → ((k : ℕ) → k < j → Filled l lows highs k)
-    → (x ≡ columnSum 15 l j) × (y ≡ columnRows 15 l j) × (x ≤ 3825) × (y ≤ 53550) → (k : ℕ) → k < j + 1 → Filled l (set lows j x) (set highs j y) k
-filled-more l lows highs j x y m n h f k b = go (ℕ-discrete k j)
+pub sums-more : (l lows highs : List ℕ) (j x y : ℕ) → j < length lows → j < length highs → ((k : ℕ) → k < j → SumsAt l lows highs k)
+    → (x ≡ columnSum 15 l j) × (y ≡ columnRows 15 l j) × (x ≤ 3825) × (y ≤ 53550) → (k : ℕ) → k < j + 1 → SumsAt l (set lows j x) (set highs j y) k
+sums-more l lows highs j x y m n h f k b = go (ℕ-discrete k j)
   where
-    go : Dec (k ≡ j) → Filled l (set lows j x) (set highs j y) k
+    go : Dec (k ≡ j) → SumsAt l (set lows j x) (set highs j y) k
     go (yes e) = rw (e, getD-set-same lows j x 0 m, getD-set-same highs j y 0 n) f
     go (no e) = rw (getD-set-other lows j k x 0 e, getD-set-other highs j k y 0 e) (h k (omega arith))
 
@@ -118,7 +115,7 @@ share-small k x m h g = mul-le-mul {n₁ = k + 1} {m₁ = x} {n₂ = 32} {m₂ =
 
 -- a column of three rows, by its bytes
 sums-of-three : (l : List ℕ) (j a b c : ℕ) → a ≡ getD l j 0 → b ≡ getD l (32 + j) 0 → c ≡ getD l (64 + j) 0 → (columnRows 3 l j ≡ b + 2 * c) × (columnSum 3 l j ≡ a + b + c)
-unfolding sumTo columnSum columnRows
+unfolding sum columnSum columnRows
 sums-of-three l j a b c e f g = let z : getD l (0 * 32 + j) 0 ≡ getD l j 0 = ap (λ (k : ℕ). getD l k 0) (omega arith) in omega arith
 
 pub share-of-three : (l : List ℕ) (j a b c : ℕ) → a ≡ getD l j 0 → b ≡ getD l (32 + j) 0 → c ≡ getD l (64 + j) 0 → (j + 1) * (a + b + c) + 32 * (b + 2 * c) ≡ columnShare 3 l j

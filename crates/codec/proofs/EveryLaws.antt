@@ -1,4 +1,4 @@
--- Laws of `every` and `total`. Assumes nothing.
+-- Laws of `every`, `sum` and `total`. Assumes nothing.
 use Prim.Native.Nat.{ℕ, zero, suc, _+_, _≤_, _<_}
 use mathlib.Core.Path.{_≡_, refl, _∙_, sym, ap}
 use mathlib.Core.List.{List, [], _∷_, _++_}
@@ -12,7 +12,7 @@ use lib.Seq.{take-suc, take-add, drop-drop}
 use lib.Dec.{eqb}
 use lib.Bits.{bitOr, or-add-and, and-le-l, and-le-r}
 use borrow.Author.Tests.{eq-eqb, ne-eqb, eqb-true}
-use Rattle.codec.specs.Every.{every, total, allZero, blank}
+use Rattle.codec.specs.Every.{every, sum, total, allZero, blank}
 
 pub every-none : (p : ℕ → Bool) → every 0 p ≡ true
 unfolding every
@@ -70,13 +70,24 @@ alike-eqb zero b h = sym (eq-eqb b 0 (h .0 refl))
 alike-eqb (suc a) zero h = absurd (let z : suc a ≡ 0 = h .1 refl in omega arith)
 alike-eqb (suc a) (suc b) h = rw (ne-eqb (suc a) 0 (λ (e : suc a ≡ 0). omega arith), ne-eqb (suc b) 0 (λ (e : suc b ≡ 0). omega arith))
 
--- two numbers joined by `|` are 0 when both are
+-- two numbers added up are 0 when both are
+pub zero-sum : (x y : ℕ) → eqb (x + y) 0 ≡ (eqb x 0 && eqb y 0)
+zero-sum zero y = let e : 0 + y ≡ y = omega arith in rw e
+zero-sum (suc x) y = rw (ne-eqb (suc x + y) 0 (λ (e : suc x + y ≡ 0). omega arith), ne-eqb (suc x) 0 (λ (e : suc x ≡ 0). omega arith))
+
+-- and so are two joined by `|`
 pub or-zero : (a b : ℕ) → eqb (bitOr a b) 0 ≡ (eqb a 0 && eqb b 0)
-or-zero a b = alike-eqb (bitOr a b) (a + b) (alike-or a a b ((λ (e : a ≡ 0). e), (λ (e : a ≡ 0). e))) ∙ sum a b
-  where
-    sum : (x y : ℕ) → eqb (x + y) 0 ≡ (eqb x 0 && eqb y 0)
-    sum zero y = let e : 0 + y ≡ y = omega arith in rw e
-    sum (suc x) y = rw (ne-eqb (suc x + y) 0 (λ (e : suc x + y ≡ 0). omega arith), ne-eqb (suc x) 0 (λ (e : suc x ≡ 0). omega arith))
+or-zero a b = alike-eqb (bitOr a b) (a + b) (alike-or a a b ((λ (e : a ≡ 0). e), (λ (e : a ≡ 0). e))) ∙ zero-sum a b
+
+-- ---- sums
+pub sum-none : (f : ℕ → ℕ) → sum 0 f ≡ 0
+unfolding sum
+sum-none f = refl
+
+-- one number more
+pub sum-more : (n : ℕ) (f : ℕ → ℕ) → sum (n + 1) f ≡ sum n f + f n
+unfolding sum
+sum-more n f = rw add-one
 
 -- ---- more of `every` and `&&`
 pub both : (a b : Bool) → (a && b) ≡ true → (a ≡ true) × (b ≡ true)

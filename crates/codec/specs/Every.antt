@@ -1,4 +1,4 @@
--- Tests of every index below a bound, and of zero bytes. Assumes nothing.
+-- Tests and sums over every index below a bound, and tests of zero bytes. Assumes nothing.
 use Prim.Native.Nat.{ℕ, zero, suc, _+_}
 use mathlib.Core.List.{List, [], _∷_}
 use mathlib.Core.Bool.{Bool, true, false, _&&_, _||_}
@@ -14,6 +14,11 @@ every (suc n) p = every n p && p n
 unfoldable pub some : ℕ → (ℕ → Bool) → Bool
 some zero p = false
 some (suc n) p = some n p || p n
+
+-- f 0 + f 1 + .. + f (n - 1)
+unfoldable pub sum : ℕ → (ℕ → ℕ) → ℕ
+sum zero f = 0
+sum (suc n) f = sum n f + f n
 
 -- the sum of a list
 unfoldable pub total : List ℕ → ℕ

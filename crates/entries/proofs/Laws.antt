@@ -3,17 +3,17 @@ use Prim.Native.Nat.{ℕ, _+_, _*_, _-_, _/_, _%_, _≤_, _<_}
 use mathlib.Core.Path.{_≡_, refl, _∙_, sym, ap}
 use mathlib.Core.Logic.{_≢_}
 use mathlib.Core.List.{List, [], _∷_, _++_}
-use mathlib.Core.Bool.{Bool, true, false, _&&_}
+use mathlib.Core.Bool.{true, false, _&&_}
 use native.Mathlib.Omega.{arith}
 use lib.Dec.{eqb, leb}
 use lib.ListN.{length, getD, take, drop, set, length-append, length-set, length-take, length-drop}
 use lib.Seq.{drop-drop, take-add}
-use borrow.Author.Tests.{eqb-true, eqb-false, eq-eqb, ne-eqb, leb-true, le-leb}
+use borrow.Author.Tests.{eqb-true, eq-eqb, leb-true, le-leb}
 use Rattle.codec.specs.Num.{AreBytes, bytesOf, numAt}
 use Rattle.codec.specs.Every.{every, total, allZero, blank}
 use Rattle.checksum.specs.Check.{sealed, sealOf}
 use Rattle.codec.proofs.BlankLaws.{blank-length}
-use Rattle.codec.proofs.EveryLaws.{total-append, both, every-at, every-same, zero-part, zeros-blank}
+use Rattle.codec.proofs.EveryLaws.{total-append, both, every-at, every-same, zero-part, zeros-blank, zero-sum}
 use Rattle.codec.proofs.SpliceLaws.{part-part}
 use Rattle.codec.proofs.Fronts.{front-part, front-num, front-byte, front-none}
 use Rattle.codec.proofs.Has.{Has, has-last, has-more, has-num, has-part}
@@ -53,13 +53,6 @@ unfolding recordOf
 part-record l k o e = let f : o + 32 - o ≡ 32 = omega arith in rw (f, e)
 
 -- ---- zeros behind the records
-pub zero-sum : (a b : ℕ) → eqb (a + b) 0 ≡ (eqb a 0 && eqb b 0)
-zero-sum a b = go (eqb a 0) refl
-  where
-    go : (t : Bool) → eqb a 0 ≡ t → eqb (a + b) 0 ≡ (t && eqb b 0)
-    go true e = let f : a + b ≡ b = omega (arith, eqb-true a 0 e) in ap (λ (x : ℕ). eqb x 0) f
-    go false e = let f : a ≡ 0 → ⊥ = eqb-false a 0 e in ne-eqb (a + b) 0 (λ (g : a + b ≡ 0). f (omega arith))
-
 -- the places with no record, and the bytes behind all of them
 pub tail-split : (l : List ℕ) (e : ℕ) → e ≤ 496 → allZero (take (510 - e) (drop e l)) ≡ (allZero (take (496 - e) (drop e l)) && allZero (take 14 (drop 496 l)))
 tail-split l e h =

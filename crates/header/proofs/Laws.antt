@@ -5,7 +5,6 @@ use mathlib.Core.Logic.{_≢_}
 use mathlib.Core.List.{List, [], _∷_, _++_}
 use mathlib.Core.Bool.{Bool, true, false, _&&_, and-false, and-true}
 use native.Mathlib.Omega.{arith}
-use native.Mathlib.Nat.{add-zero}
 use lib.Dec.{eqb, leb}
 use lib.ListN.{length, getD, take, drop, set, length-append, length-set, length-take, length-drop}
 use lib.Seq.{getD-take, getD-drop, ext-getD}
@@ -22,7 +21,7 @@ use Rattle.codec.proofs.Fronts.{front-part, front-nums, front-num, front-byte, 
 use Rattle.codec.proofs.Has.{Has, has-last, has-more, has-num, has-nums, has-part, has-at}
 use Rattle.checksum.proofs.OneByte.{one-byte}
 use Rattle.checksum.proofs.CheckLaws.{seal-length, seal-seals, sealed-is}
-use Rattle.header.specs.Header.{rowInRange, limitsInRange, headerFits, bytesAt, tableAt, tableOf, parseHeader, headerBody, imageHeader, wellMadeHeader}
+use Rattle.header.specs.Header.{rowInRange, limitsInRange, headerFits, tableAt, tableOf, parseHeader, headerBody, imageHeader, wellMadeHeader}
 use Rattle.header.specs.declared.Header.{Header}
 
 pub table-length : (m : List (List ℕ)) → length (tableOf m) ≡ 64

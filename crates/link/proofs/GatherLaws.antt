@@ -9,7 +9,7 @@ use lib.Dec.{eqb, leb}
 use lib.ListN.{length, getD, drop, replicate}
 use borrow.Author.Tests.{le-leb, lt-leb, eq-eqb, ne-eqb}
 use Rattle.codec.specs.Num.{numsAt}
-use Rattle.codec.specs.Every.{every, allZero}
+use Rattle.codec.specs.Every.{allZero}
 use Rattle.codec.proofs.EveryLaws.{every-of, every-same}
 use Rattle.codec.proofs.FlagLaws.{every-both}
 use Rattle.clock.specs.Timestamp.{merged}

@@ -7,7 +7,7 @@ use mathlib.Core.Bool.{Bool, true, false, cond, _||_}
 use lib.Dec.{eqb, ltb}
 use lib.ListN.{length}
 use Rattle.codec.specs.Num.{AreBytes}
-use Rattle.codec.specs.Written.{Written, refused as refusedWith, wrote}
+use Rattle.codec.specs.Written.{refused as refusedWith, wrote}
 use Rattle.header.specs.Header.{headerFits, wellMadeHeader, writeHeader}
 use Rattle.header.specs.declared.Header.{Header}
 use Rattle.entries.specs.Entries.{wellMadeEntries, countOf, entriesFit, writeEntries, readRecord}

@@ -6,7 +6,7 @@ use lib.Dec.{leb}
 use lib.ListN.{length, getD, take, drop, set}
 use Rattle.codec.specs.Rows.{rows, upto}
 use Rattle.codec.specs.Splice.{splice}
-use Rattle.codec.specs.Every.{blank, every, allZero}
+use Rattle.codec.specs.Every.{blank, every}
 
 -- its bytes, however long it is: f gives those of an item, and the places of all items are s bytes
 unfoldable pub imageQueue : {A : Type 0} → (A → List ℕ) → ℕ → List A → List ℕ

@@ -1,19 +1,14 @@
 -- What a receipt finds in an area, and what it does to it. Assumes nothing.
 use Prim.Native.Nat.{ℕ, _*_, _+_, _<_}
 use mathlib.Core.Path.{_≡_}
-use mathlib.Core.List.{List, _∷_, _++_}
+use mathlib.Core.List.{List, _∷_}
 use mathlib.Core.Bool.{true}
 use lib.ListN.{getD}
-use Rattle.reset.specs.Config.{Config, isStation, neighbours}
+use Rattle.reset.specs.Config.{isStation, neighbours}
 use Rattle.reset.specs.Clock.{vector}
-use Rattle.reset.specs.State.{Item, Station, State, stationAt, linkAt, setStation}
-use Rattle.reset.specs.Steps.{recv, modeAfter, bounded, doMark, receive}
-use Rattle.station.specs.View.{modeView, stationView}
-use Rattle.reset_rules.specs.Turn.{putItems}
-use Rattle.reset_rules.specs.Slots.{controlOf}
-use Rattle.reset_rules.specs.declared.Turned.{Turned}
-use Rattle.area.specs.Layout.{image, linkBytes, configAt, stateAt, test}
-use Rattle.step_parts.specs.Answers.{steppedOf}
+use Rattle.reset.specs.State.{Item, Station, stationAt, linkAt}
+use Rattle.reset.specs.Steps.{recv, bounded, doMark, receive}
+use Rattle.area.specs.Layout.{linkBytes, configAt, stateAt, test}
 use Rattle.step_parts.specs.Does.{Does}
 use Rattle.step_parts.specs.declared.answer.Stepped.{Stepped}
 

@@ -1,11 +1,11 @@
 -- The header's fields (document 01, "The network"), how they are read, and the two tests of a header: well made (else number 1), and the network rules
 -- (else number 3). Assumes nothing.
-use Prim.Native.Nat.{ℕ, zero, suc, _+_}
+use Prim.Native.Nat.{ℕ, zero, _+_}
 use mathlib.Core.List.{List, []}
 use mathlib.Core.Bool.{Bool, cond, _&&_, _||_, Bool·beq}
 use lib.Dec.{eqb, leb, ltb}
 use lib.ListN.{getD, length}
-use Rattle.codec.specs.Every.{every}
+use Rattle.codec.specs.Every.{every, sum}
 use Rattle.reset.specs.Reach.{limit, linked, everyReached}
 
 -- What setup fixes: stations are 0 to n - 1, the ceiling t bounds each count, each station has an allowance of own entries a phase, and each link has a
@@ -90,11 +90,6 @@ limitBelow n m i j = (ltb i n && ltb j n) || eqb (limit m i j) 0
 
 unfoldable pub nothingAbove : ℕ → List ℕ → List (List ℕ) → Bool
 nothingAbove n a m = every 8 (allowanceBelow n a) && every 8 (λ (i : ℕ). every 8 (limitBelow n m i))
-
--- f 0 + f 1 + .. + f (n - 1)
-unfoldable pub sum : ℕ → (ℕ → ℕ) → ℕ
-sum zero f = 0
-sum (suc n) f = sum n f + f n
 
 -- the limits of the two links between i and j: 0 where they are no neighbours
 abbrev pub between : List (List ℕ) → ℕ → ℕ → ℕ

@@ -5,10 +5,10 @@ use mathlib.Core.Path.{_≡_, refl}
 use mathlib.Core.List.{List, [], _∷_}
 use mathlib.Core.Bool.{Bool, true, false}
 use lib.ListN.{replicate}
-use Rattle.codec.specs.Every.{every}
+use Rattle.codec.specs.Every.{every, sum}
 use Rattle.clock.specs.Timestamp.{zeros}
 use Rattle.reset.specs.Reach.{limit, linked, apart, joins, first, unseen, spreadBy, everyReached}
-use Rattle.reset.specs.Config.{Config, allowancesFit, limitsFit, wellMade, zeroDiagonal, linkedBothWays, nothingAbove, sum, withinCeiling, networkRules}
+use Rattle.reset.specs.Config.{Config, allowancesFit, limitsFit, wellMade, zeroDiagonal, linkedBothWays, nothingAbove, withinCeiling, networkRules}
 use Rattle.reset.specs.Clock.{vector, timestampFits}
 use Rattle.reset.specs.State.{Mode, normal, mute, standBy, Item, message, resetReq, resetDone, Station, State, blankStation, withTime, withPhase, withSent, withReqs, withDones, setStation, setLink}
 use Rattle.reset.specs.Steps.{Step, enter, send, recv, start}

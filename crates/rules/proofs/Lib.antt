@@ -1,3 +1,2 @@
-pub mod SumLaws
 pub mod TableLaws
 pub mod Laws

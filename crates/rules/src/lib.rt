@@ -2,8 +2,8 @@
 ghost use mathlib.Core.Path.{_≡_};
 ghost use mathlib.Core.Bool.{_&&_};
 ghost use Prim.Native.Nat.{ℕ, _<_, _≤_};
-ghost use Rattle.codec.specs.Every.{every};
-ghost use Rattle.reset.specs.Config.{zeroDiagonal, bothOrNone, linkedBothWays, allowanceBelow, limitBelow, sum, between, withinCeiling, networkRules};
+ghost use Rattle.codec.specs.Every.{every, sum};
+ghost use Rattle.reset.specs.Config.{zeroDiagonal, bothOrNone, linkedBothWays, allowanceBelow, limitBelow, between, withinCeiling, networkRules};
 ghost use Rattle.rules.specs.Setup.{headerConfig};
 ghost use Rattle.rules.specs.Table.{columnOf, turnedOf};
 use header::Header;

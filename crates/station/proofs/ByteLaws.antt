@@ -1,7 +1,7 @@
 -- The test of a station's record, field by field as the code reads its bytes. Assumes nothing.
-use Prim.Native.Nat.{ℕ, zero, suc, _+_, _*_, _≤_, _<_}
+use Prim.Native.Nat.{ℕ, zero, suc, _+_, _*_, _<_}
 use mathlib.Core.Path.{_≡_, refl, _∙_, sym, ap}
-use mathlib.Core.List.{List, []}
+use mathlib.Core.List.{List}
 use mathlib.Core.Bool.{Bool, true, false, not, cond, _&&_, _||_, and-false}
 use native.Mathlib.Omega.{arith}
 use native.Mathlib.Nat.{add-suc}
@@ -11,7 +11,6 @@ use lib.ListN.{getD}
 use borrow.Author.Tests.{eq-eqb, ne-eqb, lt-leb}
 use Rattle.codec.specs.Num.{numAt, numsAt}
 use Rattle.codec.specs.Every.{every}
-use Rattle.codec.specs.Rows.{upto}
 use Rattle.codec.proofs.NumLaws.{nums-get}
 use Rattle.codec.proofs.EveryLaws.{every-same}
 use Rattle.codec.proofs.FlagLaws.{every-both}
@@ -23,7 +22,7 @@ use Rattle.reset.specs.Reach.{limit, linked}
 use Rattle.reset.specs.Config.{isStation, neighbours, limitAt, allowanceAt}
 use Rattle.reset.specs.Clock.{timestampFits}
 use Rattle.reset.specs.Steps.{isNormal}
-use Rattle.reset.specs.WellFormed.{sentFitsTo, sentFits, marksFitFrom, marksFit, stationFits}
+use Rattle.reset.specs.WellFormed.{sentFits, marksFitFrom, marksFit, stationFits}
 use Rattle.rules.specs.Setup.{blockConfig}
 use Rattle.station.specs.Image.{byteAt, markAt, modeOf, parseStation}
 use Rattle.station.specs.Test.{sentWithinAt, markBound, marksWithinAt, markFits, stationBytesFit, stationTest}

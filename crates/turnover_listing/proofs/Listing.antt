@@ -1,19 +1,17 @@
 -- turnover on document 01's listing, from the bytes of its input to the bytes of its output. Assumes nothing.
-use Prim.Native.Nat.{ℕ, zero, suc, _+_, _<_}
+use Prim.Native.Nat.{ℕ, _+_, _<_}
 use native.Mathlib.Omega.{arith}
 use mathlib.Core.Path.{_≡_, refl, sym, ap, _∙_}
 use mathlib.Core.List.{List, [], _∷_, _++_}
-use mathlib.Core.Bool.{Bool, true, false, cond}
-use lib.Dec.{eqb, ltb}
+use mathlib.Core.Bool.{true}
 use lib.ListN.{length}
 use borrow.Author.Tests.{ne-eqb, eq-eqb}
 use Rattle.codec.specs.Every.{every, blank}
 use Rattle.codec.specs.Rows.{upto}
-use Rattle.codec.specs.Splice.{splice}
-use Rattle.codec.specs.Written.{Written, wrote}
+use Rattle.codec.specs.Written.{wrote}
 use Rattle.codec.proofs.BlankLaws.{blank-length}
 use Rattle.codec.proofs.SpliceLaws.{splice-all}
-use Rattle.header.specs.Header.{rowInRange, limitsInRange, headerFits, tableAt, imageHeader, wellMadeHeader, writeHeader}
+use Rattle.header.specs.Header.{rowInRange, limitsInRange, headerFits, tableAt, imageHeader, writeHeader}
 use Rattle.header.proofs.Laws.{image-length}
 use Rattle.decimal.specs.Ascii.{ascii}
 use Rattle.decimal.specs.Decimal.{decimalIn, decimal, digit}
@@ -33,7 +31,7 @@ use Rattle.reset.proofs.ClockRange.{vector-range}
 use Rattle.reset.proofs.Formed.{initial-well-formed, step-well-formed}
 use Rattle.reset.specs.Worked.{lines, pair, listing}
 use Rattle.reset.specs.WorkedStates.{headers}
-use Rattle.rules.specs.Setup.{blockConfig, headerOf}
+use Rattle.rules.specs.Setup.{headerOf}
 use Rattle.rules.proofs.Laws.{block-back, well-made-accepted}
 use Rattle.area.specs.Layout.{image}
 use Rattle.area_calls.specs.Calls.{stepOn, setupOn}

@@ -11,7 +11,6 @@ use lib.Dec.{eqb}
 use lib.ListN.{length, getD, set}
 use lib.Seq.{set-split, getD-set-same, getD-set-other}
 use borrow.Author.Tests.{eq-eqb, ne-eqb, lt-ltb}
-use Rattle.codec.specs.Splice.{splice}
 use Rattle.codec.proofs.SpliceLaws.{splice-length}
 use Rattle.header.proofs.Laws.{table-at}
 use Rattle.turnover_settings.specs.Settings.{allowanceSet, limitSet, linkSet, limitIn}

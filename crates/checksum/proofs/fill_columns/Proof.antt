@@ -5,7 +5,7 @@ use denote.Ref.{now}
 use lib.ListN.{length-set}
 use borrow.Author.Needs.{needs}
 use Rattle.checksum.specs.Columns.{Columns}
-use Rattle.checksum.proofs.ColumnLaws.{filled-more}
+use Rattle.checksum.proofs.ColumnLaws.{sums-more}
 use Rattle.checksum.proofs.fill_columns.Statement.{statement}
 use Rattle.checksum.proofs.fill_columns.Tie as tie
 
@@ -22,7 +22,7 @@ loop-again : tie.Need-loop-again Inv-loop μ-loop
 loop-again c =
     let l = c .before .before .loop in
     let a = c .before .before .before .before .args in
-    (omega arith, (simp length-set (l .inv .1 .0), simp length-set (l .inv .1 .1), filled-more (now (a .s)) (l .lows) (l .highs) (l .j) (c .column .result .low) (c .column .result .high) (omega arith) (omega arith) (l .inv .1 .2) (c .column .ensures)))
+    (omega arith, (simp length-set (l .inv .1 .0), simp length-set (l .inv .1 .1), sums-more (now (a .s)) (l .lows) (l .highs) (l .j) (c .column .result .low) (c .column .result .high) (omega arith) (omega arith) (l .inv .1 .2) (c .column .ensures)))
 
 returns : tie.Need-returns Inv-loop μ-loop
 returns c =

@@ -4,10 +4,11 @@ use native.Mathlib.Omega.{arith}
 use mathlib.Core.List.{[]}
 use lib.ListN.{getD}
 use borrow.Author.Needs.{needs}
+use Rattle.codec.specs.Every.{sum}
+use Rattle.codec.proofs.EveryLaws.{sum-none, sum-more}
 use Rattle.reset.specs.Reach.{limit}
-use Rattle.reset.specs.Config.{sum, between}
+use Rattle.reset.specs.Config.{between}
 use Rattle.rules.proofs.TableLaws.{turned-at}
-use Rattle.rules.proofs.SumLaws.{sum-none, sum-more}
 use Rattle.rules.proofs.around.Statement.{statement}
 use Rattle.rules.proofs.around.Tie as tie
 

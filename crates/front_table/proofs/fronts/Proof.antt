@@ -5,9 +5,9 @@ use native.Mathlib.Omega.{arith}
 use denote.Ref.{now}
 use borrow.Author.Needs.{needs}
 use Rattle.header.specs.Header.{tableAt}
-use Rattle.block_test.proofs.FrontLaws.{Filled, filled-none, filled-more}
-use Rattle.block_test.proofs.fronts.Statement.{statement}
-use Rattle.block_test.proofs.fronts.Tie as tie
+use Rattle.front_table.proofs.TableLaws.{Filled, filled-none, filled-more}
+use Rattle.front_table.proofs.fronts.Statement.{statement}
+use Rattle.front_table.proofs.fronts.Tie as tie
 
 abbrev Inv-loop : tie.InvT-loop
 Inv-loop head n top r₀ p₀ r p = (p ≤ 8) × Filled top (tableAt 8 head 32) p r

@@ -3,10 +3,10 @@ use mathlib.Core.Path.{_≡_, _∙_, sym}
 use native.Mathlib.Omega.{arith}
 use denote.Ref.{now}
 use Rattle.header.specs.Header.{tableAt}
-use Rattle.block_test.specs.Sweep.{mayStand, frontOf, Row}
-use Rattle.block_test.proofs.FrontLaws.{linked-at, row-none, row-more}
-use Rattle.block_test.proofs.fill.Statement.{statement}
-use Rattle.block_test.proofs.fill.Tie as tie
+use Rattle.front_table.specs.Fronts.{mayStand, frontOf, Row}
+use Rattle.front_table.proofs.TableLaws.{linked-at, row-none, row-more}
+use Rattle.front_table.proofs.fill.Statement.{statement}
+use Rattle.front_table.proofs.fill.Tie as tie
 
 abbrev Inv-loop : tie.InvT-loop
 Inv-loop r₀ head top kind p q s₀ r s = (s ≤ 8) × Row top (tableAt 8 head 32) (kind * 8 + p) s r₀ r

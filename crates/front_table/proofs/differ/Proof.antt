@@ -1,9 +1,9 @@
 use denote.Ref.{now}
 use lib.ListN.{getD}
 use borrow.Author.Needs.{needs}
-use Rattle.block_test.proofs.SweepLaws.{xor-zero}
-use Rattle.block_test.proofs.differ.Statement.{statement}
-use Rattle.block_test.proofs.differ.Tie as tie
+use Rattle.front_table.proofs.TableLaws.{xor-zero}
+use Rattle.front_table.proofs.differ.Statement.{statement}
+use Rattle.front_table.proofs.differ.Tie as tie
 
 returns : tie.Need-returns
 returns c = rw (xor-zero (getD (now (c .before .before .args .known)) (c .before .place-of .result) 0) (c .before .before .args .x), c .before .place-of .ensures .0)

@@ -1,9 +1,9 @@
-use Rattle.block_test.specs.Sweep.{placeOf}
+use Rattle.front_table.specs.Fronts.{placeOf}
 use borrow.Author.Needs.{needs}
 use native.Mathlib.Omega.{arith}
 use mathlib.Core.Path.{refl}
-use Rattle.block_test.proofs.place_of.Statement.{statement}
-use Rattle.block_test.proofs.place_of.Tie as tie
+use Rattle.front_table.proofs.place_of.Statement.{statement}
+use Rattle.front_table.proofs.place_of.Tie as tie
 
 returns : tie.Need-returns
 unfolding placeOf

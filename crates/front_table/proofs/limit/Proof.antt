@@ -4,9 +4,9 @@ use borrow.Author.Needs.{needs}
 use borrow.Author.Tests.{eq-eqb, ne-eqb}
 use denote.Ref.{now}
 use Rattle.header.proofs.Laws.{table-at}
-use Rattle.block_test.specs.Sweep.{limitOf}
-use Rattle.block_test.proofs.limit.Statement.{statement}
-use Rattle.block_test.proofs.limit.Tie as tie
+use Rattle.front_table.specs.Fronts.{limitOf}
+use Rattle.front_table.proofs.limit.Statement.{statement}
+use Rattle.front_table.proofs.limit.Tie as tie
 
 returns : tie.Need-returns
 unfolding limitOf
