@@ -1,60 +1,51 @@
 // Numbers, rows, zeros, copies and the check.
-ghost use Prim.Native.Nat.{_+_, _<_, _≤_};
+ghost use Prim.Native.Nat.{_<_, _≤_};
 
-const SIXTEENS: [u16; 6] = [0, 1, 255, 256, 65534, 65535];
+// Bytes behind a colon.
+fn bytes(d: &[u8]) {
+    io::write_all(1, b":");
+    check_vectors::show(d);
+    check_vectors::end();
+}
 
-const THIRTYTWOS: [u32; 8] = [0, 255, 256, 65535, 65536, 16777215, 16777216, 4294967295];
+// What was read, and the bytes.
+fn read(y: u64, d: &[u8]) {
+    check_vectors::put(b" ", y);
+    bytes(d);
+}
 
-// A number written and read, and the bytes.
-fn two(at: usize, x: u16)
-    requires { ⌜ at + 2 ≤ 8 ⌝ }
-{
+// A number written and read.
+pub fn two(s: &[u8]) {
+    let at = check_vectors::up_to(s, 1, 6);
     let mut d = [9u8; 8];
-    codec::put16(&mut d, at, x);
-    let y = codec::get16(&d, at);
-    check_vectors::bytes(
-        b"two bytes ",
-        check_vectors::wide16(x),
-        check_vectors::wide16(y),
-        &d,
-    );
+    codec::put16(&mut d, at, check_vectors::half(s, 2));
+    read(check_vectors::wide16(codec::get16(&d, at)), &d);
 }
 
-fn four(at: usize, x: u32)
-    requires { ⌜ at + 4 ≤ 8 ⌝ }
-{
+pub fn four(s: &[u8]) {
+    let at = check_vectors::up_to(s, 1, 4);
     let mut d = [9u8; 8];
-    codec::put32(&mut d, at, x);
-    let y = codec::get32(&d, at);
-    check_vectors::bytes(b"four bytes ", x as u64, y as u64, &d);
+    codec::put32(&mut d, at, check_vectors::word(s, 2));
+    read(codec::get32(&d, at) as u64, &d);
 }
 
-fn twos() {
-    let t = SIXTEENS;
-    let mut i = 0;
-    while i < 6 {
-        two(0, t[i]);
-        two(6, t[i]);
-        i += 1;
-    }
+pub fn row_of(s: &[u8]) -> [u16; 8] {
+    [
+        check_vectors::half(s, 1),
+        check_vectors::half(s, 2),
+        check_vectors::half(s, 3),
+        check_vectors::half(s, 4),
+        check_vectors::half(s, 5),
+        check_vectors::half(s, 6),
+        check_vectors::half(s, 7),
+        check_vectors::half(s, 8),
+    ]
 }
 
-fn fours() {
-    let t = THIRTYTWOS;
-    let mut i = 0;
-    while i < 8 {
-        four(0, t[i]);
-        four(4, t[i]);
-        i += 1;
-    }
-}
-
-fn row(at: usize, c: [u16; 8])
-    requires { ⌜ at + 16 ≤ 20 ⌝ }
-{
+pub fn row(s: &[u8]) {
+    let at = check_vectors::up_to(s, 9, 4);
     let mut d = [9u8; 20];
-    codec::put_row(&mut d, at, c);
-    check_vectors::put(b"row ", at as u64);
+    codec::put_row(&mut d, at, row_of(s));
     io::write_all(1, b":");
     check_vectors::show_counts(codec::get_row(&d, at));
     check_vectors::say(b", digest ", check_vectors::digest(&d));
@@ -67,7 +58,7 @@ fn back(x: u16) -> bool {
 }
 
 // How many numbers of two bytes are read as they were written.
-fn backs() -> u64 {
+pub fn backs() -> u64 {
     let mut n: u64 = 0;
     let mut x: u32 = 0;
     while x < 65536 {
@@ -77,29 +68,38 @@ fn backs() -> u64 {
     n
 }
 
+// Whether the first of sixteen zeros are zeros.
+pub fn zeros(s: &[u8]) -> u64 {
+    let d = [0u8; 16];
+    check_vectors::one(codec::zeros(&d[0..check_vectors::up_to(s, 1, 16)]))
+}
+
+fn zero_but(p: usize, x: u8) -> bool {
+    let mut d = [0u8; 16];
+    check_vectors::poke(&mut d, p, x);
+    codec::zeros(&d)
+}
+
 // How many of sixteen places make bytes of which one is x no zeros.
-fn found(x: u8) -> u64 {
+pub fn found(s: &[u8]) -> u64 {
     let mut n: u64 = 0;
     let mut p = 0;
     while p < 16 {
-        let mut d = [0u8; 16];
-        d[p] = x;
-        n += check_vectors::one(!codec::zeros(&d));
+        n += check_vectors::one(!zero_but(p, check_vectors::byte(s, 1)));
         p += 1;
     }
     n
 }
 
-// n zeros, and n bytes 7, from a place on.
-fn runs(at: usize, n: usize)
-    requires { ⌜ at + n ≤ 8 ⌝ }
-{
+// n bytes x from a place on: zeros, and then others over them.
+pub fn run(s: &[u8]) {
+    let at = check_vectors::up_to(s, 2, 8);
+    let n = check_vectors::up_to(s, 3, 8 - at);
     let mut d = [9u8; 8];
     codec::put_zeros(&mut d, at, n);
-    check_vectors::bytes(b"zeros ", at as u64, n as u64, &d);
-    let s = [7u8; 8];
-    codec::put_bytes(&mut d, at, &s[0..n]);
-    check_vectors::bytes(b"copied ", at as u64, n as u64, &d);
+    let x = [check_vectors::byte(s, 1); 8];
+    codec::put_bytes(&mut d, at, &x[0..n]);
+    bytes(&d);
 }
 
 // Bytes b, b + a, b + 2a ..
@@ -114,28 +114,18 @@ fn fill(d: &mut [u8], a: u8, b: u8) {
 }
 
 // The check of a whole block of such bytes.
-fn mixed(a: u8, b: u8) {
+pub fn mixed(s: &[u8]) -> u64 {
     let mut d = [0u8; 512];
-    fill(&mut d, a, b);
-    check_vectors::line(
-        b"check of bytes by ",
-        check_vectors::wide(a),
-        check_vectors::wide(b),
-        check_vectors::wide16(checksum::check(&d)),
-    );
+    fill(&mut d, check_vectors::byte(s, 1), check_vectors::byte(s, 2));
+    check_vectors::wide16(checksum::check(&d))
 }
 
-// Its last bytes, and all of it, when it is sealed.
-fn mixed_sealed(a: u8, b: u8) {
+// Its digest and last bytes, when it is sealed.
+pub fn sealed(s: &[u8]) {
     let mut d = [0u8; 512];
-    fill(&mut d, a, b);
+    fill(&mut d, check_vectors::byte(s, 2), check_vectors::byte(s, 1));
     checksum::seal(&mut d);
-    check_vectors::bytes(
-        b"sealed ",
-        check_vectors::wide(a),
-        check_vectors::digest(&d),
-        &d[508..512],
-    );
+    read(check_vectors::digest(&d), &d[508..512]);
 }
 
 // The check of a block that is zero but for two bytes.
@@ -148,8 +138,18 @@ fn pair(p: usize, x: u8, q: usize, y: u8) -> u64
     check_vectors::wide16(checksum::check(&d))
 }
 
+pub fn check(s: &[u8]) -> u64 {
+    pair(
+        check_vectors::size(s, 1),
+        check_vectors::byte(s, 2),
+        check_vectors::size(s, 3),
+        check_vectors::byte(s, 4),
+    )
+}
+
 // The checks of the blocks with one byte x at places 0 to 509, added up.
-fn singles(x: u8) -> u64 {
+pub fn singles(s: &[u8]) -> u64 {
+    let x = check_vectors::byte(s, 1);
     let mut n: u64 = 0;
     let mut p = 0;
     while p < 510 {
@@ -159,104 +159,28 @@ fn singles(x: u8) -> u64 {
     n
 }
 
-fn check_line(p: usize, x: u8, q: usize, y: u8) {
-    check_vectors::put(b"check of byte ", p as u64);
-    check_vectors::put(b" at ", check_vectors::wide(x));
-    check_vectors::line(
-        b", and of byte ",
-        q as u64,
-        check_vectors::wide(y),
-        pair(p, x, q, y),
-    );
-}
-
-// The sums 0 and 130,050; bytes that do not count; the sums 65,519 to 65,521.
-fn checks() {
-    check_line(0, 0, 509, 0);
-    check_line(0, 0, 509, 255);
-    check_line(510, 255, 511, 255);
-    check_line(238, 1, 509, 128);
-    check_line(239, 1, 509, 128);
-    check_line(240, 1, 509, 128);
-    check_vectors::say(b"checks of one byte at 1, added up: ", singles(1));
-    check_vectors::say(b"checks of one byte at 255, added up: ", singles(255));
-}
-
 // Whether x seals a block that is zero but for byte p, which is 1.
-fn seals(p: usize, x: u16) -> bool {
+fn seal(p: usize, x: u16) -> u64
+    ensures { λ r. ⌜ r ≤ 1 ⌝ }
+{
     let mut d = [0u8; 512];
     check_vectors::poke(&mut d, p, 1);
     codec::put16(&mut d, 510, x);
-    checksum::sealed(&d)
+    check_vectors::one(checksum::sealed(&d))
+}
+
+pub fn seals(s: &[u8]) -> u64 {
+    seal(check_vectors::size(s, 1), check_vectors::half(s, 2))
 }
 
 // How many numbers do.
-fn all_seals(p: usize) -> u64 {
+pub fn all_seals(s: &[u8]) -> u64 {
+    let p = check_vectors::size(s, 1);
     let mut n: u64 = 0;
     let mut x: u32 = 0;
     while x < 65536 {
-        n += check_vectors::one(seals(p, x as u16));
+        n += seal(p, x as u16);
         x += 1;
     }
     n
-}
-
-fn seal_line(p: usize, x: u16) {
-    check_vectors::line(
-        b"byte sealed by ",
-        p as u64,
-        check_vectors::wide16(x),
-        check_vectors::one(seals(p, x)),
-    );
-}
-
-// 6 is right, and 65,527 is the same modulo 65,521.
-fn stored() {
-    seal_line(4, 6);
-    seal_line(4, 5);
-    seal_line(4, 7);
-    seal_line(4, 65527);
-    check_vectors::say(b"numbers that seal byte 4: ", all_seals(4));
-    check_vectors::say(b"numbers that seal byte 509: ", all_seals(509));
-}
-
-fn zero_tests() {
-    let d = [0u8; 16];
-    check_vectors::say(
-        b"no bytes are zeros: ",
-        check_vectors::one(codec::zeros(&d[0..0])),
-    );
-    check_vectors::say(
-        b"sixteen zeros are zeros: ",
-        check_vectors::one(codec::zeros(&d)),
-    );
-}
-
-fn found_line(x: u8) {
-    check_vectors::item(
-        b"no zeros by one byte at ",
-        check_vectors::wide(x),
-        found(x),
-    );
-}
-
-pub fn run() {
-    twos();
-    fours();
-    row(0, [0, 1, 255, 256, 257, 32768, 65534, 65535]);
-    row(4, [65535, 65534, 32768, 257, 256, 255, 1, 0]);
-    check_vectors::say(b"two bytes read as written: ", backs());
-    zero_tests();
-    found_line(1);
-    found_line(128);
-    runs(0, 8);
-    runs(3, 2);
-    runs(8, 0);
-    checks();
-    mixed(0, 255);
-    mixed(1, 0);
-    mixed(37, 11);
-    mixed_sealed(0, 255);
-    mixed_sealed(37, 11);
-    stored();
 }

@@ -1,191 +1,150 @@
-// Drives networks over a lent area, and writes a line for each step.
-mod flips;
+// Drives networks over a lent area. A line of the input is a call: its number, its numbers, and behind a bar what is written of it; what it
+// answers follows. `case` has the calls.
 mod setups;
 mod show;
-mod tables;
 
-use header::Header;
+ghost use Prim.Native.Nat.{_<_, _≤_};
+use step_parts::answer::Stepped;
 
-pub fn blank() -> [u8; 65536] {
-    [7u8; 65536]
+// A step by its line: the call, how many counts are shown, a station, its peer, a register number, and the number of the step.
+fn stepped(area: &mut [u8], k: u64, s: &[u8]) -> Stepped {
+    let i = check_vectors::word(s, 2);
+    match k {
+        1 => network::enter(area, i, check_vectors::word(s, 4)),
+        2 => network::send(
+            area,
+            i,
+            check_vectors::word(s, 3),
+            check_vectors::word(s, 4),
+        ),
+        3 => network::recv(area, i, check_vectors::word(s, 3)),
+        _ => network::start(area, i),
+    }
 }
 
-fn call(area: &mut [u8], number: usize, n: u8, row: [u32; 4]) {
-    let i = row[1];
-    match row[0] {
-        1 => {
-            show::answer(number, i, n, network::enter(area, i, row[3]));
-        }
-        2 => {
-            show::answer(number, i, n, network::send(area, i, row[2], row[3]));
-        }
-        3 => {
-            show::answer(number, i, n, network::recv(area, i, row[2]));
-        }
-        4 => {
-            show::answer(number, i, n, network::start(area, i));
-        }
-        _ => {
-            show::rest(number, quiescence::rest(&area[..]));
-        }
+fn call(area: &mut [u8], k: u64, s: &[u8]) {
+    if k == 5 {
+        show::rest(s, quiescence::rest(area));
+    } else {
+        show::answer(s, check_vectors::word(s, 2), stepped(area, k, s));
     }
 }
 
 // A receipt, shown unless there is nothing to take.
-fn taken(area: &mut [u8; 65536], number: usize, n: u8, i: u32, j: u32) {
+fn taken(area: &mut [u8; 65536], s: &[u8], i: u32, j: u32) {
     let r = network::recv(area, i, j);
     let refusal = show::refusal(r);
     if (refusal != 4) & (refusal != 7) {
-        show::answer(number, i, n, r);
+        show::answer(s, i, r);
     }
 }
 
 // A receipt by every station from every station.
-fn receipts(area: &mut [u8; 65536], number: usize, n: u8) {
+fn receipts(area: &mut [u8; 65536], s: &[u8]) {
     let mut k = 0;
     while k < 64 {
-        taken(area, number, n, k / 8, k % 8);
+        taken(area, s, k / 8, k % 8);
         k += 1;
     }
 }
 
 // A call on all bytes but the last.
-fn short(area: &mut [u8], number: usize, n: u8, row: [u32; 4]) {
-    if area.len() < 65535 {
-        return;
-    }
-    call(
-        &mut area[0..65535],
-        number,
-        n,
-        [row[0] % 10, row[1], row[2], row[3]],
-    );
-}
-
-fn step(area: &mut [u8; 65536], number: usize, n: u8, row: [u32; 4]) {
-    if row[0] == 6 {
-        check_vectors::poke(area, row[1] as usize, (row[2] % 256) as u8);
-        return;
-    }
-    if row[0] == 7 {
-        receipts(area, number, n);
-        return;
-    }
-    if row[0] < 10 {
-        call(area, number, n, row);
-        return;
-    }
-    short(area, number, n, row);
-}
-
-// The four numbers of a row, and the place behind it.
-struct Row {
-    numbers: [u32; 4],
-    next: usize,
-}
-
-fn row_at(steps: &[u8], at: usize) -> Row {
-    let a = check_vectors::number(steps, at);
-    let b = check_vectors::number(steps, a.next);
-    let c = check_vectors::number(steps, b.next);
-    let d = check_vectors::number(steps, c.next);
-    Row {
-        numbers: [a.value, b.value, c.value, d.value],
-        next: d.next,
+fn short(area: &mut [u8], k: u64, s: &[u8]) {
+    let n = area.len();
+    if n > 0 {
+        call(&mut area[0..n - 1], k, s);
     }
 }
 
-pub fn drive(area: &mut [u8; 65536], n: u8, steps: &[u8]) {
-    let mut at = 0;
-    let mut number = 0;
-    while at < steps.len() {
-        let r = row_at(steps, at);
-        if r.next <= at {
-            return;
+// What a step of station 200 answers on the area with one byte raised: 2 where that is no image, else 4. The byte is lowered again.
+fn flipped(area: &mut [u8; 65536], at: usize, by: u8) -> u8 {
+    check_vectors::lift(area, at, by);
+    let r = network::enter(area, 200, 0);
+    check_vectors::lift(area, at, std::num::wrapping_sub_u8(0, by));
+    show::refusal(r)
+}
+
+// How many of the bytes, each raised alone, have the answer k.
+fn flips(area: &mut [u8; 65536], k: u8, by: u8) -> u64 {
+    let mut n: u64 = 0;
+    let mut p = 0;
+    while p < 65536 {
+        n += check_vectors::one(flipped(area, p, by) == k);
+        p += 1;
+    }
+    n
+}
+
+fn change(area: &mut [u8; 65536], k: u64, s: &[u8]) {
+    match k {
+        6 => {
+            check_vectors::poke(area, check_vectors::size(s, 2), check_vectors::byte(s, 3));
         }
-        at = r.next;
-        number += 1;
-        let numbers = r.numbers;
-        step(area, number, n, numbers);
+        7 => {
+            receipts(area, s);
+        }
+        8 => {
+            setups::sevens(area);
+        }
+        9 => {
+            setups::lent(area, s);
+        }
+        10 => {
+            check_vectors::say(b" ", setups::lent(area, s));
+        }
+        _ => {
+            check_vectors::put(
+                b" ",
+                flips(area, check_vectors::byte(s, 1), check_vectors::byte(s, 2)),
+            );
+        }
     }
 }
 
-// Setup from the header block of these fields.
-pub fn fresh(area: &mut [u8; 65536], h: Header, limits: [[u8; 8]; 8]) -> u8 {
-    let mut block = [0u8; 512];
-    header::write(h, limits, &mut block);
-    setup::setup(&block, area)
+// 30 ends a line; 31 the bytes that are not 7; 22 the digest.
+fn sum_up(area: &[u8], k: u64) {
+    match k {
+        30 => {
+            check_vectors::end();
+        }
+        31 => {
+            check_vectors::say(b" ", check_vectors::others(area, 7));
+        }
+        _ => {
+            check_vectors::say(b" ", check_vectors::digest(area));
+        }
+    }
 }
 
-pub fn sum_up(area: &[u8; 65536]) {
-    check_vectors::say(b"area ", check_vectors::digest(area));
+// Calls: 1 enter, 2 send, 3 recv, 4 start, 5 rest; 21 to 25 the same on all bytes of the area but the last; 6 sets a byte; 7 is a receipt by
+// every station from every station, and shows those that are accepted; 8 sets all bytes to 7; 9 setup, 10 with its answer; 11 raises each byte alone; from 30 on
+// what is written of the area.
+fn case(area: &mut [u8; 65536], s: &[u8]) {
+    check_vectors::label(s);
+    let k = check_vectors::field(s, 0);
+    if k < 6 {
+        call(area, k, s);
+    } else if k < 20 {
+        change(area, k, s);
+    } else if k < 30 {
+        short(area, k % 10, s);
+    } else {
+        sum_up(area, k);
+    }
 }
 
-fn run(name: &[u8], h: Header, limits: [[u8; 8]; 8], steps: &[u8]) {
-    let mut area = blank();
-    io::write_all(1, name);
-    let r = fresh(&mut area, h, limits);
-    check_vectors::say(b", setup ", check_vectors::wide(r));
-    drive(&mut area, h.n, steps);
-    sum_up(&area);
-}
-
-pub fn header_of(n: u8, t: u16, allowances: [u16; 8]) -> Header {
-    Header { n, t, allowances }
-}
-
-pub fn pair() -> Header {
-    header_of(2, 7, [3, 3, 0, 0, 0, 0, 0, 0])
-}
-
-pub fn pair_limits() -> [[u8; 8]; 8] {
-    tables::PAIR
-}
-
-fn worked() {
-    run(b"worked", pair(), pair_limits(), &tables::WORKED);
-}
-
-fn refused() {
-    run(b"pair", pair(), pair_limits(), &tables::REFUSED);
-}
-
-fn last() {
-    run(b"last phases", pair(), pair_limits(), &tables::LAST);
-}
-
-fn unreached() {
-    run(b"unreached", pair(), pair_limits(), &tables::UNREACHED);
-}
-
-fn lone() {
-    let h = header_of(1, 3, [3, 0, 0, 0, 0, 0, 0, 0]);
-    run(b"lone", h, tables::NONE, &tables::LONE);
-}
-
-fn star() {
-    let h = header_of(4, 72, [1, 0, 0, 1, 0, 0, 0, 0]);
-    run(b"star", h, tables::STAR, &tables::SPOKES);
-}
-
-fn eight(name: &[u8], t: u16, limits: [[u8; 8]; 8]) {
-    let h = header_of(8, t, [0, 0, 0, 0, 0, 0, 0, 2]);
-    run(name, h, limits, &tables::AROUND);
-}
-
-fn networks() {
-    worked();
-    refused();
-    last();
-    unreached();
-    lone();
-    star();
-    eight(b"ring", 65535, tables::RING);
-    eight(b"complete", 17, tables::COMPLETE);
+fn lines(input: &[u8]) {
+    let mut area = io::large_buffer();
+    let mut at = 0;
+    while at < input.len() {
+        let end = check_vectors::find(input, at, b'\n');
+        case(&mut area, &input[at..end]);
+        at = end + 1;
+    }
 }
 
 fn main() {
-    networks();
-    setups::refusals();
-    flips::images();
+    let mut input = io::large_buffer();
+    let n = io::read_full(0, &mut input);
+    lines(&input[0..n]);
 }

@@ -1,65 +1,70 @@
-// Setups that are refused: 11, 1 and 3, and which comes first.
-use crate::tables;
+// Setup from a header block that the line has.
+ghost use Prim.Native.Nat.{_<_, _≤_};
 use header::Header;
 
-// Setup from the first bytes of a block into the first bytes of an area.
-fn lent(name: &[u8], block: &[u8], bytes: usize, area: &mut [u8], length: usize) {
-    if block.len() < bytes {
-        return;
+fn allowances(s: &[u8]) -> [u16; 8] {
+    let mut a = [0u16; 8];
+    let mut i = 0;
+    while i < 8 {
+        a[i] = check_vectors::half(s, 7 + i);
+        i += 1;
     }
+    a
+}
+
+fn row(s: &[u8], at: usize) -> [u8; 8]
+    requires { ⌜ at < 100 ⌝ }
+{
+    let mut r = [0u8; 8];
+    let mut i = 0;
+    while i < 8 {
+        r[i] = check_vectors::byte(s, at + i);
+        i += 1;
+    }
+    r
+}
+
+fn limits(s: &[u8]) -> [[u8; 8]; 8] {
+    let mut m = [[0u8; 8]; 8];
+    let mut i = 0;
+    while i < 8 {
+        m[i] = row(s, 15 + i * 8);
+        i += 1;
+    }
+    m
+}
+
+fn header_of(s: &[u8]) -> Header {
+    Header {
+        n: check_vectors::byte(s, 3),
+        t: check_vectors::half(s, 4),
+        allowances: allowances(s),
+    }
+}
+
+// Its block, with one byte raised by a number.
+fn block(s: &[u8]) -> [u8; 512] {
+    let mut b = [0u8; 512];
+    header::write(header_of(s), limits(s), &mut b);
+    check_vectors::lift(&mut b, check_vectors::size(s, 5), check_vectors::byte(s, 6));
+    b
+}
+
+// Setup from the first bytes of the block into the first bytes of the area: how many of each, n, t, the byte that is raised and by how much,
+// and the allowances and limits.
+pub fn lent(area: &mut [u8], s: &[u8]) -> u64 {
+    let length = check_vectors::size(s, 2);
     if area.len() < length {
-        return;
+        return 0;
     }
-    let r = setup::setup(&block[0..bytes], &mut area[0..length]);
-    io::write_all(1, name);
-    check_vectors::say(b": ", check_vectors::wide(r));
+    let b = block(s);
+    check_vectors::wide(setup::setup(&b[0..check_vectors::up_to(s, 1, 512)], &mut area[0..length]))
 }
 
-// A header and its limits, with one byte of the block raised by a number.
-fn block_of(name: &[u8], h: Header, limits: [[u8; 8]; 8], at: usize, by: u8) {
-    let mut block = [0u8; 512];
-    let mut area = crate::blank();
-    header::write(h, limits, &mut block);
-    check_vectors::lift(&mut block, at, by);
-    lent(name, &block, 512, &mut area, 65535);
-    lent(name, &block, 511, &mut area, 65536);
-    lent(name, &block, 512, &mut area, 65536);
-    check_vectors::say(b"not 7: ", check_vectors::others(&area, 7));
-    check_vectors::say(b"area ", check_vectors::digest(&area));
-}
-
-pub fn refusals() {
-    let h = crate::pair();
-    block_of(b"setup", h, crate::pair_limits(), 0, 0);
-    block_of(b"kind 2", h, crate::pair_limits(), 0, 1);
-    block_of(b"spare byte", h, crate::pair_limits(), 300, 1);
-    block_of(b"check", h, crate::pair_limits(), 510, 255);
-    block_of(
-        b"ceiling 6",
-        crate::header_of(2, 6, [3, 3, 0, 0, 0, 0, 0, 0]),
-        crate::pair_limits(),
-        0,
-        0,
-    );
-    block_of(
-        b"three stations",
-        crate::header_of(3, 7, [3, 3, 0, 0, 0, 0, 0, 0]),
-        crate::pair_limits(),
-        0,
-        0,
-    );
-    block_of(
-        b"one station",
-        crate::header_of(1, 7, [3, 0, 0, 0, 0, 0, 0, 0]),
-        crate::pair_limits(),
-        0,
-        0,
-    );
-    block_of(
-        b"no station",
-        crate::header_of(0, 7, [0, 0, 0, 0, 0, 0, 0, 0]),
-        tables::NONE,
-        0,
-        0,
-    );
+pub fn sevens(area: &mut [u8]) {
+    let mut i = 0;
+    while i < area.len() {
+        area[i] = 7;
+        i += 1;
+    }
 }

@@ -54,17 +54,21 @@ fn body(a: Answer, event: Record, station: u32, n: u8) {
     }
 }
 
+fn number(s: &[u8]) {
+    io::print_decimal(1, check_vectors::field(s, 5));
+}
+
 // A step's answer: an entry with its phase, station and n counts, a mode with its phase and station, or a refusal.
-pub fn answer(number: usize, station: u32, n: u8, r: Stepped) {
+pub fn answer(s: &[u8], station: u32, r: Stepped) {
     let a = r.answer;
     let event = r.event;
-    io::print_decimal(1, number as u64);
-    body(a, event, station, n);
+    number(s);
+    body(a, event, station, check_vectors::byte(s, 1));
     check_vectors::end();
 }
 
-pub fn rest(number: usize, r: RestAnswer) {
-    io::print_decimal(1, number as u64);
+pub fn rest(s: &[u8], r: RestAnswer) {
+    number(s);
     match r {
         RestAnswer::Yes => {
             io::write_all(1, b" rest yes\n");

@@ -30,60 +30,70 @@ fn own(station: u8, phase: u32, counts: [u16; 8]) -> Record {
     }
 }
 
-fn verdict(a: Record, b: Record) -> u8 {
+fn bytes_of(r: Record) -> [u8; 32] {
     let mut d = [0u8; 32];
-    let mut e = [0u8; 32];
-    records::make(&mut d, a);
-    records::make(&mut e, b);
+    record::store(&mut d, r);
+    d
+}
+
+fn verdict(a: Record, b: Record) -> u8 {
+    let d = bytes_of(a);
+    let e = bytes_of(b);
     on(&d, &e)
 }
 
-fn word(v: Verdict) {
+fn word(v: u8) {
     match v {
-        Verdict::Before => {
-            io::write_all(1, b"before\n");
+        100 => {
+            io::write_all(1, b": before\n");
         }
-        Verdict::After => {
-            io::write_all(1, b"after\n");
+        101 => {
+            io::write_all(1, b": after\n");
         }
-        Verdict::Same => {
-            io::write_all(1, b"same\n");
+        102 => {
+            io::write_all(1, b": same\n");
         }
-        Verdict::Unordered => {
-            io::write_all(1, b"unordered\n");
+        103 => {
+            io::write_all(1, b": unordered\n");
         }
-    }
-}
-
-fn say(a: &[u8], b: &[u8]) {
-    match verdict::compare(a, b) {
-        Compared::Refused(r) => {
-            check_vectors::say(b"", check_vectors::wide(r));
-        }
-        Compared::Ordered(v) => {
-            word(v);
+        _ => {
+            check_vectors::say(b": ", check_vectors::wide(v));
         }
     }
 }
 
 // A station, its phase and its first two counts, the others 0.
-fn two(station: u8, phase: u32, x: u16, y: u16) -> Record {
-    check_vectors::put(b"station ", check_vectors::wide(station));
-    check_vectors::put(b" phase ", phase as u64);
-    check_vectors::put(b" counts ", check_vectors::wide16(x));
-    check_vectors::put(b" ", check_vectors::wide16(y));
-    own(station, phase, [x, y, 0, 0, 0, 0, 0, 0])
+fn two(s: &[u8], at: usize) -> Record
+    requires { ⌜ at < 100 ⌝ }
+{
+    own(
+        check_vectors::byte(s, at),
+        check_vectors::word(s, at + 1),
+        [
+            check_vectors::half(s, at + 2),
+            check_vectors::half(s, at + 3),
+            0,
+            0,
+            0,
+            0,
+            0,
+            0,
+        ],
+    )
 }
 
 // The verdict on two such records.
-fn pair(s: u8, p: u32, a: u16, b: u16, t: u8, q: u32, c: u16, d: u16) {
-    let mut v = [0u8; 32];
-    let mut w = [0u8; 32];
-    records::make(&mut v, two(s, p, a, b));
-    io::write_all(1, b" and ");
-    records::make(&mut w, two(t, q, c, d));
-    io::write_all(1, b": ");
-    say(&v, &w);
+pub fn pair(s: &[u8]) {
+    word(verdict(two(s, 1), two(s, 5)));
+}
+
+// The verdict on the bytes at hand and the record of the line, which it reads by phases and counts alone.
+pub fn other(d: &[u8], s: &[u8]) -> u64 {
+    if d.len() < 32 {
+        return 0;
+    }
+    let e = bytes_of(records::record_of(s));
+    check_vectors::wide(on(&d[0..32], &e))
 }
 
 // Counts of 5, with x at place i.
@@ -93,95 +103,34 @@ fn fives(i: usize, x: u16) -> [u16; 8] {
     c
 }
 
-// How many of the eight places are answered so, where one count is x in the first and y in the second.
-fn places(x: u16, y: u16, answer: u8) -> u64 {
-    let mut n: u64 = 0;
-    let mut i = 0;
-    while i < 8 {
-        n += check_vectors::one(verdict(own(3, 7, fives(i, x)), own(6, 7, fives(i, y))) == answer);
-        i += 1;
-    }
-    n
+fn place(i: usize, j: usize, x: u16, y: u16) -> u8 {
+    verdict(own(3, 7, fives(i, x)), own(6, 7, fives(j, y)))
 }
 
-// How many pairs of neighbour places are, where the first has x at one and the second at the other.
-fn crossed(x: u16, answer: u8) -> u64 {
+// How many of the eight places are answered so, where one count is x in the first record and y, so many places on, in the second.
+pub fn places(s: &[u8]) -> u64 {
+    let on = check_vectors::up_to(s, 1, 8);
     let mut n: u64 = 0;
     let mut i = 0;
     while i < 8 {
-        n += check_vectors::one(
-            verdict(own(3, 7, fives(i, x)), own(6, 7, fives(i + 1, x))) == answer,
+        let v = place(
+            i,
+            i + on,
+            check_vectors::half(s, 2),
+            check_vectors::half(s, 3),
         );
+        n += check_vectors::one(v == check_vectors::byte(s, 4));
         i += 1;
     }
     n
 }
 
-fn places_line(x: u16, y: u16, answer: u8) {
-    check_vectors::put(b"one count ", check_vectors::wide16(x));
-    check_vectors::line(
-        b" against ",
-        check_vectors::wide16(y),
-        check_vectors::wide(answer),
-        places(x, y, answer),
-    );
-}
-
-fn orders() {
-    pair(0, 0, 1, 0, 1, 0, 2, 1);
-    pair(1, 0, 2, 1, 0, 0, 1, 0);
-    pair(1, 0, 0, 1, 0, 0, 1, 0);
-    pair(0, 0, 1, 0, 1, 0, 0, 1);
-    pair(1, 999999, 65535, 65535, 0, 999999, 65535, 65535);
-    places_line(4, 5, 100);
-    places_line(65535, 5, 101);
-    places_line(1, 1, 102);
-    check_vectors::say(b"two counts greater, unordered: ", crossed(6, 103));
-}
-
-// A verdict reads phases and counts alone.
-fn others() {
-    let a = verdict(records::full(2, 0, 1), own(0, 999999, [1u16; 8]));
-    check_vectors::say(
-        b"verdict of other kinds and registers: ",
-        check_vectors::wide(a),
-    );
-}
-
-// Refusals: other phases, a station 8, an own count 0, and 1 before 10; a phase past the greatest.
-fn refusals() {
-    pair(0, 0, 1, 0, 0, 1, 1, 0);
-    pair(0, 65536, 1, 1, 1, 0, 2, 2);
-    pair(8, 0, 1, 1, 0, 0, 1, 1);
-    pair(0, 0, 1, 1, 8, 0, 1, 1);
-    pair(0, 0, 0, 1, 0, 1, 1, 1);
-    pair(0, 0, 1, 1, 1, 1, 1, 0);
-    pair(0, 1000000, 1, 1, 0, 1000000, 1, 1);
-}
-
-// The verdict on the first n and the first m of 40 bytes, a record and bytes 0.
-fn cut(n: usize, m: usize)
-    requires { ⌜ (n ≤ 40) × (m ≤ 40) ⌝ }
-{
-    let mut d = [0u8; 40];
-    records::make(&mut d, own(0, 0, [1u16; 8]));
-    let e = d;
-    check_vectors::line(
-        b"verdict of lengths ",
-        n as u64,
-        m as u64,
-        check_vectors::wide(on(&d[0..n], &e[0..m])),
-    );
-}
-
-pub fn run() {
-    orders();
-    others();
-    refusals();
-    cut(32, 32);
-    cut(31, 32);
-    cut(32, 31);
-    cut(33, 32);
-    cut(32, 33);
-    cut(0, 0);
+// The verdict on the first n and the first m bytes.
+pub fn cut(d: &[u8], s: &[u8]) -> u64 {
+    let n = check_vectors::up_to(s, 1, 40);
+    let m = check_vectors::up_to(s, 2, 40);
+    if d.len() < 40 {
+        return 0;
+    }
+    check_vectors::wide(on(&d[0..n], &d[0..m]))
 }

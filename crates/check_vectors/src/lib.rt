@@ -1,19 +1,12 @@
 // What the programs that run vectors share: bytes that are set, copied, sealed and counted, lines that are written, and classes of cases.
 mod sweeps;
 
-pub use sweeps::all_moves;
-pub use sweeps::all_stored;
-pub use sweeps::answer;
-pub use sweeps::cases;
-pub use sweeps::cuts;
-pub use sweeps::moves;
 pub use sweeps::record_answer;
-pub use sweeps::refused;
 pub use sweeps::resealed;
-pub use sweeps::spares;
-pub use sweeps::stored;
+pub use sweeps::sweep;
 pub use sweeps::table;
 ghost use Prim.Native.Nat.{_<_, _≤_};
+ghost use lib.ListN.{length};
 
 pub fn wide(x: u8) -> u64
     ensures { λ r. ⌜ r < 256 ⌝ }
@@ -141,15 +134,6 @@ pub fn show(s: &[u8]) {
     }
 }
 
-// A line of bytes.
-pub fn bytes(label: &[u8], x: u64, y: u64, s: &[u8]) {
-    put(label, x);
-    put(b" ", y);
-    io::write_all(1, b":");
-    show(s);
-    end();
-}
-
 // The counts, a space before each.
 pub fn show_counts(c: [u16; 8]) {
     let mut i = 0;
@@ -159,10 +143,89 @@ pub fn show_counts(c: [u16; 8]) {
     }
 }
 
-// An answer, and a buffer of bytes 7 afterwards: how many of it are not 7, and the digest of it all.
-pub fn outcome(label: &[u8], x: u64, answer: u8, d: &[u8]) {
-    put(label, x);
-    put(b": ", wide(answer));
+// The place of the first byte b from `at` on, or the length.
+pub fn find(s: &[u8], at: usize, b: u8) -> usize
+    requires { ⌜ at ≤ length (now s) ⌝ }
+    ensures { λ r. ⌜ (at ≤ r) × (r ≤ length (now (s .entry))) ⌝ }
+{
+    let mut i = at;
+    while i < s.len() {
+        if s[i] == b {
+            return i;
+        }
+        i += 1;
+    }
+    i
+}
+
+// The text of a line, behind its bar.
+pub fn label(s: &[u8]) {
+    let at = find(s, 0, b'|');
+    if at < s.len() {
+        io::write_all(1, &s[at + 1..]);
+    }
+}
+
+// x and one more digit, or the greatest number.
+fn longer(x: u64, digit: u8) -> u64 {
+    if x < 1844674407370955161 {
+        x * 10 + wide(digit) % 16
+    } else {
+        18446744073709551615
+    }
+}
+
+// Number k of a line, from 0, wherever it stands.
+pub fn field(s: &[u8], k: usize) -> u64 {
+    let mut left = k;
+    let mut x: u64 = 0;
+    let mut open = false;
+    let mut i = 0;
+    while i < s.len() {
+        let b = s[i];
+        let digit = (b'0' <= b) & (b <= b'9');
+        if digit {
+            x = longer(x, b);
+        } else if open {
+            if left == 0 {
+                return x;
+            }
+            left -= 1;
+            x = 0;
+        }
+        open = digit;
+        i += 1;
+    }
+    if left == 0 { x } else { 0 }
+}
+
+pub fn byte(s: &[u8], k: usize) -> u8 {
+    (field(s, k) % 256) as u8
+}
+
+pub fn half(s: &[u8], k: usize) -> u16 {
+    (field(s, k) % 65536) as u16
+}
+
+pub fn word(s: &[u8], k: usize) -> u32 {
+    (field(s, k) % 4294967296) as u32
+}
+
+pub fn size(s: &[u8], k: usize) -> usize {
+    field(s, k) as usize
+}
+
+// A number, or `most` where it is greater.
+pub fn up_to(s: &[u8], k: usize, most: usize) -> usize
+    ensures { λ r. ⌜ r ≤ most ⌝ }
+{
+    let n = size(s, k);
+    if n < most { n } else { most }
+}
+
+// An answer behind a line, and a buffer of bytes 7 afterwards: how many of it are not 7, and the digest of it all.
+pub fn left(answer: u64, d: &[u8]) {
+    put(b": ", answer);
     put(b", not 7: ", others(d, 7));
     say(b", digest ", digest(d));
 }

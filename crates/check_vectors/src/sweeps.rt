@@ -1,4 +1,4 @@
-// Classes of cases that header blocks, entries blocks and records share: kind 1, 2 and 3.
+// Classes of cases that header blocks, entries blocks and records share: kind 1, 2 and 3, and 4 for bytes that are to be a record.
 ghost use Prim.Native.Nat.{_≤_};
 use entries::EntriesRead;
 
@@ -24,16 +24,19 @@ fn first_answer(s: &[u8]) -> u8 {
     record_answer(&s[0..32])
 }
 
-// What the reader of a kind answers: 0, or a refusal's number. Of records the first 32 bytes are read.
-pub fn answer(kind: u8, s: &[u8]) -> u8 {
-    if kind == 1 {
-        let r = header::read(s);
-        return r.refusal;
+fn header_answer(s: &[u8]) -> u8 {
+    let r = header::read(s);
+    r.refusal
+}
+
+// What the reader of a kind answers: 0, or a refusal's number. Of kind 3 the first 32 bytes are read.
+fn answer(kind: u8, s: &[u8]) -> u8 {
+    match kind {
+        1 => header_answer(s),
+        2 => entries_answer(s),
+        3 => first_answer(s),
+        _ => record_answer(s),
     }
-    if kind == 2 {
-        return entries_answer(s);
-    }
-    first_answer(s)
 }
 
 // The answer to a copy with one byte set, sealed again.
@@ -45,41 +48,17 @@ pub fn resealed(kind: u8, good: &[u8], at: usize, x: u8) -> u8 {
     answer(kind, &b)
 }
 
-// A line for each pair of a byte's place and its value.
-pub fn cases(kind: u8, label: &[u8], good: &[u8], pairs: &[u8]) {
-    let mut i = 0;
-    while i < pairs.len() {
-        let at = crate::number(pairs, i);
-        let value = crate::number(pairs, at.next);
-        if value.next <= i {
-            return;
-        }
-        i = value.next;
-        let x = (value.value % 256) as u8;
-        crate::line(
-            label,
-            at.value as u64,
-            crate::wide(x),
-            crate::wide(resealed(kind, good, at.value as usize, x)),
-        );
-    }
-}
-
 // How many of the bytes of a part, set to x and sealed again, are refused.
-pub fn refused(kind: u8, good: &[u8], from: usize, to: usize, x: u8) -> u64 {
+fn refused(kind: u8, good: &[u8], from: usize, to: usize, x: u8) -> u64
+    requires { ⌜ to ≤ 512 ⌝ }
+{
     let mut n: u64 = 0;
     let mut p = from;
-    while p < to {
+    while p <= to {
         n += crate::one(resealed(kind, good, p, x) == 1);
         p += 1;
     }
     n
-}
-
-// A part that is to be zero: how many of its bytes are refused, by two values.
-pub fn spares(kind: u8, label: &[u8], good: &[u8], from: usize, to: usize) {
-    crate::item(label, 1, refused(kind, good, from, to, 1));
-    crate::item(label, 128, refused(kind, good, from, to, 128));
 }
 
 // How many values of a byte are accepted, sealed again.
@@ -95,13 +74,13 @@ fn values(kind: u8, good: &[u8], at: usize) -> u64
     n
 }
 
-// The same of each byte of a part, in a line.
-pub fn table(kind: u8, good: &[u8], from: usize, to: usize) {
-    crate::put(b"values accepted from byte ", from as u64);
+// The same of each byte of a part, by its line: a kind, and the part's last byte and first.
+pub fn table(good: &[u8], s: &[u8]) {
+    let to = crate::up_to(s, 2, 512);
     io::write_all(1, b":");
-    let mut p = from;
-    while p < to {
-        crate::put(b" ", values(kind, good, p));
+    let mut p = crate::size(s, 3);
+    while p <= to {
+        crate::put(b" ", values(crate::byte(s, 1), good, p));
         p += 1;
     }
     crate::end();
@@ -116,7 +95,7 @@ fn moved(kind: u8, good: &[u8], at: usize, by: u8) -> u8 {
 }
 
 // How many of the 512 bytes, each raised alone, are refused.
-pub fn moves(kind: u8, good: &[u8], by: u8) -> u64
+fn moves(kind: u8, good: &[u8], by: u8) -> u64
     ensures { λ r. ⌜ r ≤ 512 ⌝ }
 {
     let mut n: u64 = 0;
@@ -129,7 +108,7 @@ pub fn moves(kind: u8, good: &[u8], by: u8) -> u64
 }
 
 // The same for each of the 255 other values.
-pub fn all_moves(kind: u8, good: &[u8]) -> u64 {
+fn all_moves(kind: u8, good: &[u8]) -> u64 {
     let mut n: u64 = 0;
     let mut by: u32 = 1;
     while by < 256 {
@@ -140,7 +119,7 @@ pub fn all_moves(kind: u8, good: &[u8]) -> u64 {
 }
 
 // The answer to a copy with another number for its check.
-pub fn stored(kind: u8, good: &[u8], x: u16) -> u8 {
+fn stored(kind: u8, good: &[u8], x: u16) -> u8 {
     let mut b = [0u8; 512];
     crate::copy(&mut b, good);
     codec::put16(&mut b, 510, x);
@@ -148,7 +127,7 @@ pub fn stored(kind: u8, good: &[u8], x: u16) -> u8 {
 }
 
 // How many numbers are accepted for a check.
-pub fn all_stored(kind: u8, good: &[u8]) -> u64 {
+fn all_stored(kind: u8, good: &[u8]) -> u64 {
     let mut n: u64 = 0;
     let mut x: u32 = 0;
     while x < 65536 {
@@ -159,19 +138,46 @@ pub fn all_stored(kind: u8, good: &[u8]) -> u64 {
 }
 
 // The answer to the first n of 600 bytes, the good block and zeros.
-fn cut(kind: u8, label: &[u8], good: &[u8], n: usize)
+fn cut(kind: u8, good: &[u8], n: usize) -> u8
     requires { ⌜ n ≤ 600 ⌝ }
 {
     let mut b = [0u8; 600];
     crate::copy(&mut b, good);
-    crate::item(label, n as u64, crate::wide(answer(kind, &b[0..n])));
+    answer(kind, &b[0..n])
 }
 
-pub fn cuts(kind: u8, label: &[u8], good: &[u8]) {
-    cut(kind, label, good, 0);
-    cut(kind, label, good, 1);
-    cut(kind, label, good, 511);
-    cut(kind, label, good, 512);
-    cut(kind, label, good, 513);
-    cut(kind, label, good, 600);
+fn single(class: u64, kind: u8, good: &[u8], s: &[u8]) -> u8 {
+    match class {
+        1 => resealed(kind, good, crate::size(s, 2), crate::byte(s, 3)),
+        2 => stored(kind, good, crate::half(s, 2)),
+        3 => cut(kind, good, crate::up_to(s, 2, 600)),
+        _ => answer(kind, good),
+    }
+}
+
+fn class(class: u64, kind: u8, good: &[u8], s: &[u8]) -> u64 {
+    match class {
+        5 => refused(
+            kind,
+            good,
+            crate::size(s, 2),
+            crate::up_to(s, 3, 512),
+            crate::byte(s, 4),
+        ),
+        6 => moves(kind, good, crate::byte(s, 2)),
+        7 => all_moves(kind, good),
+        _ => all_stored(kind, good),
+    }
+}
+
+// A case on a good block, by its line: a class, a kind of block, and
+// 1 a byte's place and value, 2 the number for its check, 3 the length that it is cut to: the answer;
+// 5 a part's first and last byte and a value for each, 6 by how much each byte is raised, 7 all of these,
+// 8 all numbers for its check: how many are refused, or of 8 accepted.
+pub fn sweep(good: &[u8], s: &[u8]) -> u64 {
+    let k = crate::field(s, 0);
+    if k < 5 {
+        return crate::wide(single(k, crate::byte(s, 1), good, s));
+    }
+    class(k, crate::byte(s, 1), good, s)
 }

@@ -3,19 +3,13 @@
 use reference::area;
 use reference::header::Header;
 use reference::network::*;
-mod t {
-    include!("../../../../crates/check_network/src/tables.rt");
-}
-use t::*;
+// A case a line: numbers, the number of the call first, and behind a bar what is written of it, with the rest of its numbers.
+const INPUT: &str = include_str!("../../../../crates/check_network/stdin");
 const A: usize = 65536;
-// The rows of a list of steps.
-fn rows(list: &[u8]) -> Vec<[u32; 4]> {
-    let text = std::str::from_utf8(list).unwrap();
-    let row = |r: &str| {
-        let n: Vec<u32> = r.split(' ').map(|x| x.parse().unwrap()).collect();
-        n.try_into().unwrap()
-    };
-    text.split(',').filter(|r| !r.is_empty()).map(row).collect()
+fn numbers(line: &str) -> Vec<usize> {
+    let digits = line.split(|c: char| !c.is_ascii_digit());
+    let numbers = digits.filter(|x| !x.is_empty());
+    numbers.map(|x| x.parse().unwrap()).collect()
 }
 fn digest(s: &[u8]) -> u64 {
     let mut h = 1u64;
@@ -68,13 +62,12 @@ fn step(a: &mut Vec<u8>, n: usize, kind: u32, i: usize, j: usize, reg: u32) -> (
         }
     }
 }
-fn call(a: &mut Vec<u8>, number: usize, n: usize, r: [u32; 4]) {
-    if r[0] <= 4 && r[0] >= 1 {
-        println!(
-            "{} {}",
-            number,
-            step(a, n, r[0], r[1] as usize, r[2] as usize, r[3]).0
-        );
+// A step or rest by its call and its line: how many counts are shown, a station, its peer, a register number, the number of the step.
+fn call(a: &mut Vec<u8>, kind: usize, x: &[usize]) {
+    let number = x[5];
+    if kind <= 4 {
+        let (s, _) = step(a, x[1], kind as u32, x[2], x[3], x[4] as u32);
+        println!("{number} {s}");
         return;
     }
     match area::read(a) {
@@ -86,40 +79,30 @@ fn call(a: &mut Vec<u8>, number: usize, n: usize, r: [u32; 4]) {
         ),
     }
 }
-fn drive(a: &mut Vec<u8>, n: usize, steps: &[[u32; 4]]) {
-    for (k, r) in steps.iter().enumerate() {
-        match r[0] {
-            6 => a[r[1] as usize] = r[2] as u8,
-            7 => {
-                for i in 0..8 {
-                    for j in 0..8 {
-                        let (s, e) = step(a, n, 3, i, j, 0);
-                        if e != 4 && e != 7 {
-                            println!("{} {}", k + 1, s)
-                        }
-                    }
-                }
-            }
-            x if x < 10 => call(a, k + 1, n, *r),
-            x => {
-                let mut b = a[..A - 1].to_vec();
-                call(&mut b, k + 1, n, [x - 10, r[1], r[2], r[3]]);
-                assert!(b[..] == a[..A - 1]);
+fn short(a: &[u8], kind: usize, x: &[usize]) {
+    let mut b = a[..A - 1].to_vec();
+    call(&mut b, kind, x);
+    assert!(b[..] == a[..A - 1]);
+}
+// A receipt by every station from every station.
+fn receipts(a: &mut Vec<u8>, x: &[usize]) {
+    for i in 0..8 {
+        for j in 0..8 {
+            let (s, e) = step(a, x[1], 3, i, j, 0);
+            if e != 4 && e != 7 {
+                println!("{} {}", x[5], s)
             }
         }
     }
 }
-fn head(n: u8, t: u16, al: [u16; 8], l: [[u8; 8]; 8]) -> Header {
-    let mut h = Header::new(n, t);
-    h.allowances = al;
-    h.limits = l;
-    h
-}
-fn fresh(a: &mut Vec<u8>, h: Header) -> u8 {
-    match setup_area(
-        a.len(),
-        &h.to_block().map(|b| b.to_vec()).unwrap_or(vec![0; 512]),
-    ) {
+// Setup from and into so many bytes: n, t, the byte of the block that is raised and by how much, the allowances and the limits.
+fn setup(a: &mut Vec<u8>, x: &[usize]) -> u8 {
+    let mut h = Header::new(x[3] as u8, x[4] as u16);
+    h.allowances = std::array::from_fn(|i| x[7 + i] as u16);
+    h.limits = std::array::from_fn(|i| std::array::from_fn(|j| x[15 + 8 * i + j] as u8));
+    let mut b = h.to_block().map(|b| b.to_vec()).unwrap_or(vec![0; 512]);
+    b[x[5]] = b[x[5]].wrapping_add(x[6] as u8);
+    match setup_area(x[2], &b[..x[1]]) {
         Ok(s) => {
             *a = area::image(&s);
             0
@@ -127,92 +110,38 @@ fn fresh(a: &mut Vec<u8>, h: Header) -> u8 {
         Err(e) => num(e),
     }
 }
-fn run(name: &str, h: Header, steps: &[u8]) {
-    let mut a = vec![7u8; A];
-    println!("{name}, setup {}", fresh(&mut a, h));
-    drive(&mut a, h.n(), &rows(steps));
-    println!("area {}", digest(&a));
-}
-fn setups(name: &str, h: Header, at: usize, by: u8) {
-    let mut a = vec![7u8; A];
-    let mut b = h.to_block().map(|b| b.to_vec()).unwrap_or(vec![0; 512]);
-    b[at] = b[at].wrapping_add(by);
-    for (bl, al) in [(512, A - 1), (511, A), (512, A)] {
-        println!(
-            "{name}: {}",
-            match setup_area(al, &b[..bl]) {
-                Ok(s) => {
-                    a = area::image(&s);
-                    0
-                }
-                Err(e) => num(e),
-            }
-        );
+// How many of the bytes, each raised alone, make no image.
+fn flips(a: &mut [u8], by: u8) -> usize {
+    let mut no = 0;
+    for p in 0..A {
+        a[p] = a[p].wrapping_add(by);
+        no += area::read(a).is_err() as usize;
+        a[p] = a[p].wrapping_sub(by);
     }
-    println!("not 7: {}", a.iter().filter(|&&x| x != 7).count());
-    println!("area {}", digest(&a));
-}
-fn flips(name: &str, steps: &[u8]) {
-    println!("{name} image");
-    let mut a = vec![7u8; A];
-    fresh(&mut a, head(2, 7, [3, 3, 0, 0, 0, 0, 0, 0], PAIR));
-    drive(&mut a, 2, &rows(steps));
-    for by in [1u8, 2, 64, 255] {
-        let (mut no, mut other) = (0, 0);
-        for p in 0..A {
-            a[p] = a[p].wrapping_add(by);
-            if area::read(&a).is_ok() {
-                other += 1
-            } else {
-                no += 1
-            }
-            a[p] = a[p].wrapping_sub(by);
-        }
-        println!("raised by {by}, no image: {no}, another state: {other}");
-    }
-    println!("area {}", digest(&a));
+    no
 }
 fn main() {
-    let p = head(2, 7, [3, 3, 0, 0, 0, 0, 0, 0], PAIR);
-    run("worked", p, &WORKED);
-    run("pair", p, &REFUSED);
-    run("last phases", p, &LAST);
-    run("unreached", p, &UNREACHED);
-    run("lone", head(1, 3, [3, 0, 0, 0, 0, 0, 0, 0], NONE), &LONE);
-    run("star", head(4, 72, [1, 0, 0, 1, 0, 0, 0, 0], STAR), &SPOKES);
-    run(
-        "ring",
-        head(8, 65535, [0, 0, 0, 0, 0, 0, 0, 2], RING),
-        &AROUND,
-    );
-    run(
-        "complete",
-        head(8, 17, [0, 0, 0, 0, 0, 0, 0, 2], COMPLETE),
-        &AROUND,
-    );
-    setups("setup", p, 0, 0);
-    setups("kind 2", p, 0, 1);
-    setups("spare byte", p, 300, 1);
-    setups("check", p, 510, 255);
-    setups(
-        "ceiling 6",
-        head(2, 6, [3, 3, 0, 0, 0, 0, 0, 0], PAIR),
-        0,
-        0,
-    );
-    setups(
-        "three stations",
-        head(3, 7, [3, 3, 0, 0, 0, 0, 0, 0], PAIR),
-        0,
-        0,
-    );
-    setups(
-        "one station",
-        head(1, 7, [3, 0, 0, 0, 0, 0, 0, 0], PAIR),
-        0,
-        0,
-    );
-    setups("no station", head(0, 7, [0; 8], NONE), 0, 0);
-    flips("initial", &[]);
-    flips("busy", &BUSY);
+    let mut a = vec![0u8; A];
+    let mut no = 0;
+    for line in INPUT.lines() {
+        let x = numbers(line);
+        print!("{}", line.split_once('|').map_or("", |parts| parts.1));
+        match x[0] {
+            6 => a[x[2]] = x[3] as u8,
+            7 => receipts(&mut a, &x),
+            8 => a.fill(7),
+            9 => drop(setup(&mut a, &x)),
+            10 => println!(" {}", setup(&mut a, &x)),
+            11 if x[1] == 2 => {
+                no = flips(&mut a, x[2] as u8);
+                print!(" {no}");
+            }
+            11 => print!(" {}", A - no),
+            21..=29 => short(&a, x[0] % 10, &x),
+            30 => println!(),
+            31 => println!(" {}", a.iter().filter(|&&x| x != 7).count()),
+            32 => println!(" {}", digest(&a)),
+            k => call(&mut a, k, &x),
+        }
+    }
 }

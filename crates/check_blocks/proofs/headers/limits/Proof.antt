@@ -6,5 +6,4 @@ use Rattle.check_blocks.proofs.headers.limits.Tie as tie
 pub limits-spec : {M : Type 1} → statement M
 limits-spec =
     tie.close
-    (tie.spec (λ x answer n₀ k₀ n k. (n ≤ k) × (k ≤ 64)) (λ x answer n₀ k₀ n k. 64 - k) (λ c. search needs) (λ c κs. search needs) (λ c κs. search needs) (λ c. search needs)
-    (λ c. search needs) (λ c. search needs) (λ c. search needs) (λ c. search needs))
+    (tie.spec (λ s n₀ k₀ n k. (n ≤ k) × (k ≤ 64)) (λ s n₀ k₀ n k. 64 - k) (λ c. search needs) (λ c κs. search needs) (λ c κs. search needs) (λ c κs. search needs) (λ c κs. search needs) (λ c. search needs) (λ c. search needs) (λ c. search needs) (λ c. search needs) (λ c. search needs))

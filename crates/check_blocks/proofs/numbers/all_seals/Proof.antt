@@ -6,5 +6,4 @@ use Rattle.check_blocks.proofs.numbers.all_seals.Tie as tie
 pub all-seals-spec : {M : Type 1} → statement M
 all-seals-spec =
     tie.close
-    (tie.spec (λ p n₀ x₀ n x. (n ≤ x) × (x ≤ 65536)) (λ p n₀ x₀ n x. 65536 - x) (λ c. search needs) (λ c. search needs) (λ c κs. search needs) (λ c κs. search needs)
-    (λ c. search needs) (λ c. search needs) (λ c. search needs) (λ c. search needs) (λ c. search needs))
+    (tie.spec (λ s p n₀ x₀ n x. (n ≤ x) × (x ≤ 65536)) (λ s p n₀ x₀ n x. 65536 - x) (λ c κs. search needs) (λ c. search needs) (λ c. search needs) (λ c κs. search needs) (λ c. search needs) (λ c. search needs) (λ c. search needs) (λ c. search needs) (λ c. search needs))

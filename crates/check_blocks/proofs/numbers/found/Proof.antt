@@ -6,6 +6,4 @@ use Rattle.check_blocks.proofs.numbers.found.Tie as tie
 pub found-spec : {M : Type 1} → statement M
 found-spec =
     tie.close
-    (tie.spec (λ x n₀ p₀ n p. (n ≤ p) × (p ≤ 16)) (λ x n₀ p₀ n p. 16 - p) (λ c. search needs) (λ c. search needs) (λ c. search needs) (λ c κs. search needs)
-    (λ c κs. search needs) (λ c. search needs) (λ c. search needs) (λ c. search needs) (λ c. search needs)
-    (λ c. search needs))
+    (tie.spec (λ s n₀ p₀ n p. (n ≤ p) × (p ≤ 16)) (λ s n₀ p₀ n p. 16 - p) (λ c. search needs) (λ c κs. search needs) (λ c κs. search needs) (λ c κs. search needs) (λ c. search needs) (λ c. search needs) (λ c. search needs) (λ c. search needs) (λ c. search needs))

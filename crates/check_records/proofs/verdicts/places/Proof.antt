@@ -6,6 +6,4 @@ use Rattle.check_records.proofs.verdicts.places.Tie as tie
 pub places-spec : {M : Type 1} → statement M
 places-spec =
     tie.close
-    (tie.spec (λ x y answer n₀ i₀ n i. (n ≤ i) × (i ≤ 8)) (λ x y answer n₀ i₀ n i. 8 - i) (λ c. search needs) (λ c κs. search needs) (λ c κs. search needs) (λ c κs. search needs)
-    (λ c κs. search needs) (λ c κs. search needs) (λ c κs. search needs) (λ c. search needs) (λ c. search needs)
-    (λ c. search needs) (λ c. search needs) (λ c. search needs))
+    (tie.spec (λ s on n₀ i₀ n i. (n ≤ i) × (i ≤ 8)) (λ s on n₀ i₀ n i. 8 - i) (λ c κs. search needs) (λ c. search needs) (λ c. search needs) (λ c κs. search needs) (λ c κs. search needs) (λ c κs. search needs) (λ c κs. search needs) (λ c κs. search needs) (λ c. search needs) (λ c. search needs) (λ c. search needs) (λ c. search needs) (λ c. search needs))
