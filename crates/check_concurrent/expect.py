@@ -1,4 +1,6 @@
-# Writes what check_concurrent is to print, from a model of its own: python3 expect.py > stdout
+# Writes `stdin` and `stdout` of this folder's program, the second from a model of its own.
+import os
+
 def counts(k):
     m = k // 2
     return [1 + m // 3 + (m + 3 * i) % 5 for i in range(8)]
@@ -77,10 +79,12 @@ def verdict(x, y):
         return "before"
     return "after" if all(i >= j for i, j in zip(p, q)) else "unordered"
 
-out = []
-say = out.append
+# What the program is told, and what it is to print. A call on bytes is told where they begin and end.
+told, out = [], []
+tell, say = told.append, out.append
 
-def lister(rs, r, places):
+def lister(rs, at, r, places):
+    tell(f"1 {at}|  record {r}, places {places}")
     say(f"  record {r}, places {places}: ")
     if rs is None or r >= len(rs):
         return say(f"refused {1 if rs is None else 12}, left 1000\n")
@@ -96,64 +100,89 @@ def order(rs, i, j):
         return say(" 12")
     say(" 10" if rs[i]["phase"] != rs[j]["phase"] else " " + verdict(rs[i], rs[j]))
 
-def orders(rs, i, n):
+def orders(rs, at, i, n):
+    tell(f"2 {at} {n}|  order of {i}:")
     say(f"  order of {i}:")
     for j in range(n + 1):
         order(rs, i, j)
     say("\n")
 
-def fits(rs, r):
+def fits(rs, at, r):
     for places in range(10):
-        lister(rs, r, places)
+        lister(rs, at, r, places)
 
-def refusals(a):
+def refusals(a, at):
     rs, top = read(a), 2 ** 64 - 1
-    lister(rs, 0, 1000)
-    lister(rs, top, 0)
-    lister(rs, 4, 0)
+    lister(rs, at, 0, 1000)
+    lister(rs, at, top, 0)
+    lister(rs, at, 4, 0)
     say("  orders:")
     for i, j in ((0, 3), (0, 1), (0, top), (top, 0)):
+        tell(f"3 {at} {i} {j}" + ("|  orders:" if (i, j) == (0, 3) else ""))
         order(rs, i, j)
-    say("\n")
+    line("")
 
-def total(a):
+def line(text):
+    tell(f"15|{text}" if text else "15")
+    say(text + "\n")
+
+def total(a, label=""):
     rs = read(a)
+    tell(f"4 0 {len(a)}" + label)
     say(": refused 1\n" if rs is None else f": records {len(rs)}\n")
 
 for n in (0, 1, 14, 15, 16, 30, 31):
-    say(f"records {n}\n")
-    rs = read(make(n))
+    line(f"records {n}")
+    tell(f"10 {n}")
+    rs, at = read(make(n)), f"0 {len(make(n))}"
     for r in range(n + 1):
-        lister(rs, r, 1000)
+        lister(rs, at, r, 1000)
     for i in (0, 4, n):
-        orders(rs, i, n)
+        orders(rs, at, i, n)
 
-say("spoilt\n")
+line("spoilt")
+tell("10 31")
 a = make(31)
-fits(read(a), 4)
-for part in (a, a[:2047], a[:512], b"", a[512:]):
-    refusals(part)
-refusals(a[:1552] + b"\0" + a[1553:])
+fits(read(a), "0 2048", 4)
+for part, at in ((a, "0 2048"), (a[:2047], "0 2047"), (a[:512], "0 512"), (b"", "0 0"), (a[512:], "512 2048")):
+    refusals(part, at)
+tell("13 1552 0")
+refusals(a[:1552] + b"\0" + a[1553:], "0 2048")
 
-say("harmed\n")
+line("harmed")
+# the header of 31 records: one station fewer, another t, links that some record names and that none does
 cases = [(0, 1, 8), (0, 1, 7), (0, 2, 0), (0, 60, 0), (0, 94, 0), (0, 67, 0), (0, 34, 0), (0, 0, 2)]
-cases += [(1, 4, 1), (1, 4, 2), (2, 4, 1), (2, 7, 1), (3, 4, 4), (3, 1, 2), (2, 1, 14), (3, 0, 1), (3, 17, 8), (3, 18, 3), (3, 18, 6)]
-cases += [(3, 22, 16), (3, 32, 208), (3, 33, 7), (3, 33, 8), (3, 44, 0), (3, 48, 1)]
+# block numbers, counts of records, and the kind of a block
+cases += [(1, 4, 1), (1, 4, 2), (2, 4, 1), (2, 7, 1), (3, 4, 4), (3, 1, 2), (2, 1, 14), (3, 0, 1)]
+# a record's station, peer and phase
+cases += [(3, 17, 8), (3, 18, 3), (3, 18, 6), (3, 22, 16)]
+# counts up to t and above it, an own count of 0, and a place past the last record
+cases += [(3, 32, 208), (3, 33, 7), (3, 33, 8), (3, 44, 0), (3, 48, 1)]
 for b, p, x in cases:
+    tell("10 31")
+    tell(f"12|  block {b}, byte {p} set to {x}")
     say(f"  block {b}, byte {p} set to {x}")
     c = a[512 * b:512 * b + p] + bytes([x]) + a[512 * b + p + 1:512 * b + 512]
     total(a[:512 * b] + seal(c) + a[512 * b + 512:])
+tell("10 31")
 short = a[:1024] + entries(2, range(15, 29)) + a[1536:]
 wrong = a[:2046] + bytes([(a[2046] + 1) % 256]) + a[2047:]
-for word, part in (("in block 2 14", short), ("at the end 14", short[:1536]), ("in block 2 15", a), ("at the end 15", a[:1536]), ("a wrong check at the end", wrong), ("without that block", wrong[:1536])):
+for call, word, part in (("11 14", "in block 2 14", short), ("", "at the end 14", short[:1536]), ("11 15", "in block 2 15", a), ("", "at the end 15", a[:1536]),
+                         ("14 2046 1", "a wrong check at the end", wrong), ("", "without that block", wrong[:1536])):
+    if call:
+        tell(call)
     say("  " + word)
-    total(part)
+    total(part, "|  " + word)
 
-rs = read(make(3000))
+rs, at = read(make(3000)), "0 102912"
+tell("10 3000")
 say("records 3000")
-total(make(3000))
+total(make(3000), "|records 3000")
 for r in (0, 14, 15, 1500, 2999, 3000):
-    lister(rs, r, 1000)
-fits(rs, 2999)
-orders(rs, 1500, 3000)
-print("".join(out), end="")
+    lister(rs, at, r, 1000)
+fits(rs, at, 2999)
+orders(rs, at, 1500, 3000)
+here = os.path.dirname(os.path.abspath(__file__))
+for name, text in (("stdin", "\n".join(told) + "\n"), ("stdout", "".join(out))):
+    with open(os.path.join(here, name), "w") as file:
+        file.write(text)

@@ -6,6 +6,4 @@ use Rattle.check_concurrent.proofs.orders.Tie as tie
 pub orders-spec : {M : Type 1} → statement M
 orders-spec =
     tie.close
-    (tie.spec (λ a first count second₀ t7 second. second ≤ count + 1) (λ a first count second₀ t7 second. count + 1 - second) (λ c. search needs) (λ c κs. search needs)
-    (λ c. search needs) (λ c κs. search needs) (λ c. search needs) (λ c κs. search needs) (λ c. search needs) (λ c. search needs) (λ c. search needs) (λ c. search needs)
-    (λ c κs. search needs) (λ c. search needs))
+    (tie.spec (λ a s count second₀ second. (second ≤ count + 1) × (count ≤ 9000)) (λ a s count second₀ second. 9001 - second) (λ c κs. search needs) (λ c. search needs) (λ c κs. search needs) (λ c κs. search needs) (λ c. search needs) (λ c. search needs) (λ c. search needs) (λ c κs. search needs) (λ c. search needs))
