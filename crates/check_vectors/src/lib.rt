@@ -1,4 +1,5 @@
-// What the programs that run vectors share: bytes that are set, copied, sealed and counted, lines that are written, and classes of cases.
+// What the programs that run vectors share: bytes that are set, copied, sealed and counted, lines that are read and written, and classes of
+// cases. A line of a program's input is a case: its numbers, and behind a bar what is written of it, with the rest of its numbers.
 mod sweeps;
 
 pub use sweeps::record_answer;
@@ -42,33 +43,6 @@ pub fn seal(d: &mut [u8]) {
 pub fn copy(d: &mut [u8], s: &[u8]) {
     if s.len() <= d.len() {
         codec::put_bytes(d, 0, s);
-    }
-}
-
-// A number of a list, and the place behind it and the byte that ends it.
-pub struct Listed {
-    pub value: u32,
-    pub next: usize,
-}
-
-// The digits from `at` up to the first byte below them, a space or a comma.
-pub fn number(list: &[u8], at: usize) -> Listed {
-    let mut x: u64 = 0;
-    let mut i = at;
-    while i < list.len() {
-        let b = list[i];
-        i += 1;
-        if b < b'0' {
-            return Listed {
-                value: x as u32,
-                next: i,
-            };
-        }
-        x = (x * 10 + wide(b - b'0')) % 4294967296;
-    }
-    Listed {
-        value: x as u32,
-        next: i,
     }
 }
 
