@@ -1,5 +1,5 @@
 // Numbers, rows, zeros, copies and the check.
-ghost use Prim.Native.Nat.{_<_, _≤_};
+ghost use Prim.Native.Nat.{_+_, _<_, _≤_};
 
 // Bytes behind a colon.
 fn bytes(d: &[u8]) {
@@ -91,15 +91,36 @@ pub fn found(s: &[u8]) -> u64 {
     n
 }
 
-// n bytes x from a place on: zeros, and then others over them.
-pub fn run(s: &[u8]) {
-    let at = check_vectors::up_to(s, 2, 8);
-    let n = check_vectors::up_to(s, 3, 8 - at);
+// Bytes 9 with n zeros from a place on.
+fn zeroed(at: usize, n: usize) -> [u8; 8]
+    requires { ⌜ at + n ≤ 8 ⌝ }
+{
     let mut d = [9u8; 8];
     codec::put_zeros(&mut d, at, n);
-    let x = [check_vectors::byte(s, 1); 8];
-    codec::put_bytes(&mut d, at, &x[0..n]);
+    d
+}
+
+// And n bytes x over them.
+fn copied(zeros: [u8; 8], at: usize, n: usize, x: u8)
+    requires { ⌜ at + n ≤ 8 ⌝ }
+{
+    let mut d = zeros;
+    let b = [x; 8];
+    codec::put_bytes(&mut d, at, &b[0..n]);
     bytes(&d);
+}
+
+// The zeros, or where x is not 0 the bytes over them.
+pub fn run(s: &[u8]) {
+    let x = check_vectors::byte(s, 1);
+    let at = check_vectors::up_to(s, 2, 8);
+    let n = check_vectors::up_to(s, 3, 8 - at);
+    let d = zeroed(at, n);
+    if x == 0 {
+        bytes(&d);
+    } else {
+        copied(d, at, n, x);
+    }
 }
 
 // Bytes b, b + a, b + 2a ..
