@@ -101,7 +101,7 @@ fn change(area: &mut [u8; 65536], k: u64, s: &[u8]) {
     }
 }
 
-// 30 ends a line; 31 the bytes that are not 7; 22 the digest.
+// 30 ends a line; 31 the bytes that are not 7; 32 the digest.
 fn sum_up(area: &[u8], k: u64) {
     match k {
         30 => {
@@ -116,9 +116,9 @@ fn sum_up(area: &[u8], k: u64) {
     }
 }
 
-// Calls: 1 enter, 2 send, 3 recv, 4 start, 5 rest; 21 to 25 the same on all bytes of the area but the last; 6 sets a byte; 7 is a receipt by
-// every station from every station, and shows those that are accepted; 8 sets all bytes to 7; 9 setup, 10 with its answer; 11 raises each byte alone; from 30 on
-// what is written of the area.
+// Calls: 1 enter, 2 send, 3 recv, 4 start, 5 rest; 21 to 25 the same on all bytes of the area but the last; 6 sets a byte; 7 is a
+// receipt by every station from every station, and shows those that are accepted; 8 sets all bytes to 7; 9 setup, 10 with its answer; 11
+// raises each byte alone; from 30 on what is written of the area.
 fn case(area: &mut [u8; 65536], s: &[u8]) {
     check_vectors::label(s);
     let k = check_vectors::field(s, 0);
