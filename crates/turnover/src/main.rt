@@ -1,10 +1,5 @@
-// turnover: runs the network that standard input describes and prints what each step answers. What is printed is decided in session; here
-// bytes are read and written.
-use libc::EAGAIN;
-use libc::EINTR;
-use libc::STDIN_FILENO;
-use libc::STDOUT_FILENO;
-use libc::types::timespec;
+// turnover: runs the network that standard input describes and prints what each step answers. What is printed is decided in turnover_session;
+// here the bytes of each read are handed on, and the answers written.
 use turnover_session::Taken;
 use turnover_settings::Run;
 ghost use mathlib.Core.Path.{_≡_};
@@ -28,71 +23,6 @@ struct Reading {
 struct Last {
     end: usize,
     failed: bool,
-}
-
-// Waits for as long as is asked, or until a signal comes.
-fn wait(asked: timespec) {
-    let mut left = asked;
-    libc::nanosleep(&asked, &mut left);
-}
-
-// Whether a call that failed is made again: a signal came, or the file was not ready, and then for a millisecond it is not asked.
-fn again() -> bool {
-    let error = os::errno();
-    if error == EINTR {
-        return true;
-    }
-    if error == EAGAIN {
-        wait(timespec {
-            tv_sec: 0,
-            tv_nsec: 1000000,
-        });
-        return true;
-    }
-    false
-}
-
-// One read. Nothing says that a file is ever ready, so the calls are counted down from a number that no run uses up.
-fn get(bytes: &mut [u8]) -> isize {
-    let mut calls = u64::MAX;
-    while calls > 0 {
-        let got = libc::read(STDIN_FILENO, bytes);
-        if got >= 0 {
-            return got;
-        }
-        if !again() {
-            return got;
-        }
-        calls -= 1;
-    }
-    -1
-}
-
-// Whether there is a next write: this one took bytes, or is made again.
-fn moves(got: isize) -> bool {
-    if got < 0 {
-        return again();
-    }
-    got > 0
-}
-
-// Writes all, each call from where the last one stopped, and answers whether it could.
-fn put(bytes: &[u8]) -> bool {
-    let mut calls = u64::MAX;
-    let mut done = 0;
-    while done < bytes.len() {
-        if calls == 0 {
-            return false;
-        }
-        calls -= 1;
-        let rest = &bytes[done..];
-        let got = libc::write(STDOUT_FILENO, rest);
-        if !moves(got) {
-            return false;
-        }
-        done += io::count(got, rest);
-    }
-    true
 }
 
 // What the bytes of a read leave. Behind a refused setup no more is read: nothing more is printed.
@@ -130,9 +60,9 @@ fn feed(
     };
     while t.next < bytes.len() {
         let before = t.run;
-        t = turnover_session::take_lines(line, t.have, bytes, t.next, block, area, out, 0, before);
+        t = turnover_parts::take_lines(line, t.have, bytes, t.next, block, area, out, 0, before);
         let end = t.end;
-        if !put(&out[..end]) {
+        if !turnover_io::put(&out[..end]) {
             return settled(t, true);
         }
     }
@@ -154,7 +84,7 @@ fn turn(
 {
     let have = s.have;
     let run = s.run;
-    let got = get(bytes);
+    let got = turnover_io::get(bytes);
     if got <= 0 {
         return Reading {
             have,
@@ -190,7 +120,7 @@ fn run(bytes: &mut [u8], line: &mut [u8], block: &mut [u8], area: &mut [u8], out
         let open = s.open;
         if !open {
             let last = s.run;
-            let end = turnover_session::finish(&line[..], s.have, block, area, out, 0, last);
+            let end = turnover_parts::finish(&line[..], s.have, block, area, out, 0, last);
             return Last { end, failed };
         }
     }
@@ -208,5 +138,5 @@ fn main() {
     let mut out = io::large_buffer();
     let last = run(&mut bytes, &mut line, &mut block, &mut area, &mut out);
     let end = last.end;
-    put(&out[..end]);
+    turnover_io::put(&out[..end]);
 }

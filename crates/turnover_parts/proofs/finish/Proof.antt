@@ -4,9 +4,9 @@ use borrow.Author.Needs.{needs}
 use Rattle.turnover_commands.specs.Run.{standing}
 use Rattle.turnover_input.proofs.KeptLaws.{kept-empty}
 use Rattle.turnover_output.proofs.TextAtLaws.{text-more}
 use Rattle.turnover_session.proofs.Laws.{stands, end-none, end-line}
-use Rattle.turnover_session.proofs.finish.Statement.{statement}
-use Rattle.turnover_session.proofs.finish.Tie as tie
+use Rattle.turnover_parts.proofs.finish.Statement.{statement}
+use Rattle.turnover_parts.proofs.finish.Tie as tie
 
 returns : tie.Need-returns
 returns c =

@@ -1,8 +1,8 @@
 use mathlib.Core.Path.{_≡_}
 use lib.ListN.{length}
 use borrow.Author.Needs.{needs}
-use Rattle.turnover.proofs.get.Statement.{statement}
-use Rattle.turnover.proofs.get.Tie as tie
+use Rattle.turnover_io.proofs.get.Statement.{statement}
+use Rattle.turnover_io.proofs.get.Tie as tie
 
 abbrev Inv-loop : tie.InvT-loop
 Inv-loop bytes₀ calls₀ bytes calls = length bytes ≡ length bytes₀

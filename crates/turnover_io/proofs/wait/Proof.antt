@@ -47,10 +47,10 @@ use Rattle.libc.proofs.nanosleep as nanosleep
 use Rattle.libc.proofs.nanosleep.Symbol as nanosleep-def
 use Rattle.libc.proofs.nanosleep.Symbol.{name as #libc·nanosleep}
 use Rattle.libc.proofs.nanosleep.Met as nanosleep-thm
-use Rattle.turnover.proofs.wait.Key.{name as #turnover·wait}
-use Rattle.turnover.proofs.wait as wait
-use Rattle.turnover.proofs.wait.Statement as stated
-use Rattle.turnover.proofs.wait.Code as code
+use Rattle.turnover_io.proofs.wait.Key.{name as #turnover·wait}
+use Rattle.turnover_io.proofs.wait as wait
+use Rattle.turnover_io.proofs.wait.Statement as stated
+use Rattle.turnover_io.proofs.wait.Code as code
 
 abbrev R : RattleType
 R = T.the-row

@@ -6,10 +6,10 @@ use denote.Ref.{now}
 use borrow.Author.Needs.{needs}
 use Rattle.turnover_output.specs.Answer.{longest}
 use Rattle.turnover_commands.specs.Run.{standing, Ready}
 use Rattle.turnover_session.specs.Turnover.{Takes}
 use Rattle.turnover_session.proofs.Laws.{takes-none, takes-more}
-use Rattle.turnover_session.proofs.take_lines.Statement.{statement}
-use Rattle.turnover_session.proofs.take_lines.Tie as tie
+use Rattle.turnover_parts.proofs.take_lines.Statement.{statement}
+use Rattle.turnover_parts.proofs.take_lines.Tie as tie
 
 abbrev Inv-loop : tie.InvT-loop
 Inv-loop line₀ have bytes at block₀ area₀ out₀ end t₀ line block area out t =

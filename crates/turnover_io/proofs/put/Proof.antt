@@ -1,8 +1,8 @@
 use Prim.Native.Nat.{_≤_}
 use lib.ListN.{length}
 use borrow.Author.Needs.{needs}
-use Rattle.turnover.proofs.put.Statement.{statement}
-use Rattle.turnover.proofs.put.Tie as tie
+use Rattle.turnover_io.proofs.put.Statement.{statement}
+use Rattle.turnover_io.proofs.put.Tie as tie
 
 abbrev Inv-loop : tie.InvT-loop
 Inv-loop bytes calls₀ done₀ calls done = done ≤ length bytes
