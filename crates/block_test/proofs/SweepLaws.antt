@@ -13,7 +13,7 @@ use borrow.Author.Tests.{eq-eqb, eqb-true, ltb-true, lt-ltb, leb-true, le-leb}
 use Rattle.codec.specs.Num.{AreBytes, numAt, numsAt}
 use Rattle.codec.specs.Every.{every, total}
 use Rattle.codec.proofs.NumLaws.{nums-get}
-use Rattle.codec.proofs.EveryLaws.{both, join, every-none, every-at, every-of, every-same, or-zero}
+use Rattle.codec.proofs.EveryLaws.{bool-iff, both, join, every-none, every-at, every-of, every-same, or-zero}
 use Rattle.codec.proofs.FlagLaws.{every-turn, every-both}
 use Rattle.codec.proofs.Fronts.{bytes-take, bytes-drop}
 use Rattle.clock.specs.Range.{ceilingOf, countsFit}
@@ -30,11 +30,6 @@ use Rattle.block_test.specs.Sweep.{countAt, countsTest, frontTest, spare
 use Rattle.block_test.proofs.FrontLaws.{front-back, front-right}
 
 -- ---- tests
-same-test : (a b : Bool) → (a ≡ true → b ≡ true) → (b ≡ true → a ≡ true) → a ≡ b
-same-test true b f g = sym (f refl)
-same-test false true f g = g refl
-same-test false false f g = refl
-
 -- a test of every pair, by the one or by the other
 every-swap : (n k : ℕ) (p : ℕ → ℕ → Bool) → every n (λ (i : ℕ). every k (p i)) ≡ every k (λ (j : ℕ). every n (λ (i : ℕ). p i j))
 unfolding every
@@ -45,7 +40,7 @@ every-swap (suc n) k p =
 -- more numbers, each of which passes
 every-further : (n k : ℕ) (p : ℕ → Bool) → n ≤ k → ((i : ℕ) → n ≤ i → i < k → p i ≡ true) → every k p ≡ every n p
 every-further n k p l h =
-    same-test (every k p) (every n p) (λ (e : every k p ≡ true). every-of n p (λ (i : ℕ) (b : i < n). every-at k p i e (omega arith)))
+    bool-iff (every k p) (every n p) (λ (e : every k p ≡ true). every-of n p (λ (i : ℕ) (b : i < n). every-at k p i e (omega arith)))
     (λ (e : every n p ≡ true). every-of k p (λ (i : ℕ) (b : i < k). go i b e (decLt i n)))
   where
     go : (i : ℕ) → i < k → every n p ≡ true → Dec (i < n) → p i ≡ true
@@ -124,7 +119,7 @@ module _ (h : Header) (m : List (List ℕ)) (f l : List ℕ) (small : h .n ≤ 8
       (join _ _ (known-station (numsAt 2 8 l 16) (h .n) (h .t) (getD l 1 0) s (p .1) z) (join _ _ (x .2 .2) (p .1)))
 
   pub record-law : (wellMadeRecord l && recordKnown h m (parseRecord l)) ≡ (recordTest f l && countsFit (h .n) (h .t) (numsAt 2 8 l 16))
-  record-law = same-test _ _ forth back
+  record-law = bool-iff _ _ forth back
 
 -- ---- the places of a block
 module _ (l : List ℕ) where
@@ -184,7 +179,7 @@ front-more f l wrong least d own e o = rw (or-zero wrong d, at-least own least, 
   where
     at-least : (a b : ℕ) → leb 1 (min a b) ≡ (leb 1 a && leb 1 b)
     at-least a b =
-        same-test _ _ (λ (e : leb 1 (min a b) ≡ true). let h : 1 ≤ min a b = leb-true _ _ e in join _ _ (le-leb 1 a (omega arith)) (le-leb 1 b (omega arith)))
+        bool-iff _ _ (λ (e : leb 1 (min a b) ≡ true). let h : 1 ≤ min a b = leb-true _ _ e in join _ _ (le-leb 1 a (omega arith)) (le-leb 1 b (omega arith)))
         (λ (e : (leb 1 a && leb 1 b) ≡ true).
         let q = both (leb 1 a) _ e in
         let x : 1 ≤ a = leb-true _ _ (q .0) in

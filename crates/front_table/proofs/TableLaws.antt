@@ -2,7 +2,7 @@
 use Prim.Native.Nat.{ℕ, _+_, _*_, _-_, _/_, _%_, _≤_, _<_}
 use mathlib.Core.Path.{_≡_, refl, _∙_, sym}
 use mathlib.Core.List.{List}
-use mathlib.Core.Bool.{Bool, true, false, cond}
+use mathlib.Core.Bool.{Bool, true, cond}
 use native.Mathlib.Omega.{arith}
 use native.Mathlib.Decide.{decLt, ℕ-discrete}
 use lib.Dec.{eqb}
@@ -11,18 +11,13 @@ use lib.ListN.{length, getD, set, replicate, length-set, getD-replicate}
 use lib.Seq.{getD-set-same, getD-set-other}
 use borrow.Author.Tests.{eqb-true, le-leb, lt-leb, eq-eqb, ne-eqb}
 use Rattle.codec.specs.Every.{every}
-use Rattle.codec.proofs.EveryLaws.{every-at}
+use Rattle.codec.proofs.EveryLaws.{bool-iff, every-at}
 use Rattle.front_table.specs.Fronts.{mayStand, placeOf, frontOf, Row}
-
-same-test : (a b : Bool) → (a ≡ true → b ≡ true) → (b ≡ true → a ≡ true) → a ≡ b
-same-test true b f g = sym (f refl)
-same-test false true f g = g refl
-same-test false false f g = refl
 
 -- no bit differs in equal numbers alone
 pub xor-zero : (a b : ℕ) → eqb (bitXor a b) 0 ≡ eqb a b
 xor-zero a b =
-    same-test _ _ (λ (e : eqb (bitXor a b) 0 ≡ true). let z : bitXor a b ≡ 0 = eqb-true _ _ e in eq-eqb a b (omega (arith, xor-add-and a b, and-le-l a b, and-le-r a b)))
+    bool-iff _ _ (λ (e : eqb (bitXor a b) 0 ≡ true). let z : bitXor a b ≡ 0 = eqb-true _ _ e in eq-eqb a b (omega (arith, xor-add-and a b, and-le-l a b, and-le-r a b)))
     (λ (e : eqb a b ≡ true). let q : a ≡ b = eqb-true _ _ e in rw (q, xor-self b))
 
 -- ---- where the right ones are looked up

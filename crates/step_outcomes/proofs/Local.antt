@@ -12,7 +12,7 @@ use lib.ListN.{length, getD, length-append}
 use lib.Dec.{leb}
 use borrow.Author.Tests.{leb-true, le-leb}
 use Rattle.codec.specs.Every.{every}
-use Rattle.codec.proofs.EveryLaws.{both, join, every-at, every-of}
+use Rattle.codec.proofs.EveryLaws.{bool-iff, both, join, every-at, every-of}
 use Rattle.codec.proofs.PutLaws.{put-same, put-other}
 use Rattle.clock.specs.Timestamp.{tick, merged, raised}
 use Rattle.reset.specs.Config.{Config, places, neighbours}
@@ -27,12 +27,6 @@ use Rattle.reset_rules.specs.Turn.{Turning, turnedOnce, turnedAll, turned, star
 -- the bounds of station i and of its links out
 unfoldable pub localBounds : {K : Clock} → Config → State K → ℕ → Bool
 localBounds c s i = phaseBounded s i && (every 8 (countBounded c s i) && every 8 (linkBounded c s i))
-
--- two tests that imply each other are equal
-pub bool-iff : (a b : Bool) → (a ≡ true → b ≡ true) → (b ≡ true → a ≡ true) → a ≡ b
-bool-iff true b f g = sym (f refl)
-bool-iff false true f g = g refl
-bool-iff false false f g = refl
 
 -- with its first item taken off, no link is longer
 pub taken-shorter : {K : Clock} (s : State K) (j i : ℕ) (y : Item K) (q : List (Item K)) → linkAt s j i ≡ y ∷ q
