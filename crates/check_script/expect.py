@@ -15,7 +15,7 @@ FORMS = [
     ("Recv", b"recv", (STATION, STATION)),
     ("Start", b"start", (STATION,)),
 ]
-DEFAULT_LIMIT = 8
+DEFAULT_LIMIT = 16
 
 
 def meaning(line):

@@ -12,7 +12,7 @@ use Rattle.turnover_input.specs.declared.command.Command.the-variants.{N
 
 -- a line of each kind
 pub good-lines : map parseOf (linesOf (ascii "net 2 7\nallow 0 3\nlink 0 1 2\nlink 0 1\nenter 0 501\nsend 0 1 502\nrecv 1 0\nstart 1\n"))
-    ≡ Net 2 7 ∷ Allow 0 3 ∷ Link 0 1 2 ∷ Link 0 1 defaultLimit ∷ Enter 0 501 ∷ Send 0 1 502 ∷ Recv 1 0 ∷ Start 1 ∷ []
+    ≡ Net 2 7 ∷ Allow 0 3 ∷ Link 0 1 2 ∷ Link 0 1 16 ∷ Enter 0 501 ∷ Send 0 1 502 ∷ Recv 1 0 ∷ Start 1 ∷ []
 unfolding splitFrom parseOf startsWith numbersOf first more item stuck digit defaultLimit
 good-lines = refl
 

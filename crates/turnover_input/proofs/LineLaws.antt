@@ -1,11 +1,14 @@
 -- An input that comes in parts. Assumes nothing.
-use Prim.Native.Nat.{ℕ}
+use Prim.Native.Nat.{ℕ, _+_, _/_, _%_}
+use native.Mathlib.Omega.{arith}
 use mathlib.Core.Path.{_≡_, refl, _∙_, sym, ap}
 use mathlib.Core.Bool.{Bool, true, false, cond, true≢false}
 use mathlib.Core.List.{List, [], _∷_, _++_, append-assoc, append-nil}
 use lib.Dec.{eqb}
-use borrow.Author.Tests.{eqb-true}
-use Rattle.turnover_input.specs.Lines.{unended, ended, splitFrom, andThen, joined, ends, Clean, before, behind}
+use borrow.Author.Tests.{eqb-true, ne-eqb}
+use Rattle.decimal.specs.Decimal.{decimal}
+use Rattle.decimal.proofs.DecimalLaws.{decimal-small, decimal-large, by-digits}
+use Rattle.turnover_input.specs.Lines.{unended, ended, splitFrom, linesOf, andThen, joined, ends, Clean, before, behind}
 
 -- a part, and what comes after it
 pub split-append : (line a b : List ℕ) → splitFrom line (a ++ b) ≡ andThen (splitFrom line a) b
@@ -66,3 +69,27 @@ split-clean line (x ∷ a) h = go (eqb x 10) refl (split-clean [] a ends-none) (
         → Clean ((splitFrom line (x ∷ a)) .whole) × (ends ((splitFrom line (x ∷ a)) .rest) ≡ false)
     go true e f g = rw e ((h, f .0), f .1)
     go false e f g = rw e (g (ends-more line x h e))
+
+-- ---- lines joined to an input are its lines
+split-line : (line l more : List ℕ) → ends l ≡ false → splitFrom line (l ++ (10 ∷ more)) ≡ ended (line ++ l) (splitFrom [] more)
+unfolding splitFrom ends
+split-line line [] more h = rw append-nil
+split-line line (x ∷ l) more h = go (eqb x 10) refl (split-line (line ++ (x ∷ [])) l more)
+  where
+    go : (t : Bool) → eqb x 10 ≡ t → (ends l ≡ false → splitFrom (line ++ (x ∷ [])) (l ++ (10 ∷ more)) ≡ ended (line ++ (x ∷ []) ++ l) (splitFrom [] more))
+        → splitFrom line (x ∷ (l ++ (10 ∷ more))) ≡ ended (line ++ (x ∷ l)) (splitFrom [] more)
+    go true e f = absurd (true≢false (rw e at h))
+    go false e f = rw e (rw append-assoc at (f (rw e at h)))
+
+pub lines-joined : (ls : List (List ℕ)) → Clean ls → linesOf (joined ls) ≡ ls
+unfolding splitFrom
+lines-joined [] c = refl
+lines-joined (l ∷ ls) c = rw (split-line [] l (joined ls) (c .0)) (ap (λ (x : List (List ℕ)). l ∷ x) (lines-joined ls (c .1)))
+
+-- a number's text has no line feed
+pub decimal-clean : (n : ℕ) → ends (decimal n) ≡ false
+unfolding ends
+decimal-clean =
+    by-digits (λ (n : ℕ). ends (decimal n) ≡ false)
+    (λ n h. rw (decimal-small n h, ne-eqb (48 + n) 10 (omega arith)))
+    (λ n h e. rw (decimal-large n h) (ends-more (decimal (n / 10)) (48 + n % 10) e (ne-eqb (48 + n % 10) 10 (omega arith))))

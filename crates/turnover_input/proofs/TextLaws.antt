@@ -1,5 +1,5 @@
 -- A line is read as the command of which it is a text. Assumes nothing.
-use Prim.Native.Nat.{ℕ}
+use Prim.Native.Nat.{ℕ, _<_}
 use mathlib.Core.Path.{_≡_, refl, _∙_, sym, subst}
 use mathlib.Core.Bool.{Bool, true, false, cond, _&&_, false≢true}
 use mathlib.Core.Logic.{_⊎_, inl, inr, _↔_}
@@ -7,7 +7,7 @@ use mathlib.Core.List.{List, [], _∷_, _++_}
 use native.Mathlib.Omega.{arith}
 use lib.Dec.{eqb}
 use lib.ListN.{length, drop}
-use borrow.Author.Tests.{eqb-true, eq-eqb, ltb-true}
+use borrow.Author.Tests.{eqb-true, eq-eqb, ltb-true, lt-ltb}
 use Rattle.decimal.specs.Ascii.{ascii}
 use Rattle.decimal.specs.Decimal.{parted}
 use Rattle.codec.proofs.EveryLaws.{both}
@@ -39,6 +39,14 @@ parse-text b (Send i j r) e = let h = below3 i 8 j 8 r 4294967296 e in rw (numbe
 parse-text b (Recv i j) e = let h = below2 i 8 j 8 e in rw (numbers-two i j (omega arith) (omega arith), e)
 parse-text b (Start i) e = let h = ltb-true i 8 e in rw (numbers-one i (omega arith), e)
 parse-text b Bad e = absurd (false≢true e)
+
+-- ---- a link line says the limit that it writes, and without one 16
+pub written-limit : (i j l : ℕ) → commandFits (Link i j l) ≡ true → parseOf (ascii "link " ++ parted (i ∷ j ∷ l ∷ [])) ≡ Link i j l
+written-limit i j l e = parse-link i j l false (λ h. absurd (false≢true h)) e
+
+pub unwritten-limit : (i j : ℕ) → i < 8 → j < 8 → parseOf (ascii "link " ++ parted (i ∷ j ∷ [])) ≡ Link i j 16
+unfolding defaultLimit
+unwritten-limit i j f g = parse-link i j 16 true (λ h. refl) (rw (lt-ltb i 8 f, lt-ltb j 8 g))
 
 -- ---- what is read is the command of the text
 abbrev Sound : List ℕ → Command → Type 0

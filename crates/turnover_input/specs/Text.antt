@@ -10,9 +10,9 @@ use Rattle.decimal.specs.Decimal.{parted}
 use Rattle.turnover_input.specs.declared.command.Command.{Command}
 use Rattle.turnover_input.specs.declared.command.Command.the-variants.{Net, Allow, Link, Enter, Send, Recv, Start, Bad}
 
--- the limit that a link line means where it names none
+-- the limit that a link line means where it names none: document 02's sixteen
 unfoldable pub defaultLimit : ℕ
-defaultLimit = 8
+defaultLimit = 16
 
 -- a text of a command: its word, then its numbers; a brief one leaves out a limit that is the default
 abbrev pub textOf : Bool → Command → List ℕ

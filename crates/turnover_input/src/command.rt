@@ -39,7 +39,7 @@ pub enum Command {
 }
 
 // The limit that a link line means where it names none.
-const DEFAULT_LIMIT: u64 = 8;
+const DEFAULT_LIMIT: u64 = 16;
 
 fn net(x: Numbers) -> Command
     ensures { λ r. ⌜ r ≡ ofTwo Command.Net x ⌝ }

@@ -1,2 +1,4 @@
+pub mod Ceilings
 pub mod Listing
 pub mod Marked
+pub mod SetupLaws

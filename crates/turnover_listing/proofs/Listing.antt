@@ -1,18 +1,15 @@
 -- turnover on document 01's listing, from the bytes of its input to the bytes of its output. Assumes nothing.
 use Prim.Native.Nat.{ℕ, _+_, _<_}
 use native.Mathlib.Omega.{arith}
-use mathlib.Core.Path.{_≡_, refl, sym, ap, _∙_}
+use mathlib.Core.Path.{_≡_, refl, ap, _∙_}
 use mathlib.Core.List.{List, [], _∷_, _++_}
 use mathlib.Core.Bool.{true}
 use lib.ListN.{length}
-use borrow.Author.Tests.{ne-eqb, eq-eqb}
-use Rattle.codec.specs.Every.{every, blank}
+use borrow.Author.Tests.{ne-eqb}
+use Rattle.codec.specs.Every.{blank}
 use Rattle.codec.specs.Rows.{upto}
 use Rattle.codec.specs.Written.{wrote}
-use Rattle.codec.proofs.BlankLaws.{blank-length}
-use Rattle.codec.proofs.SpliceLaws.{splice-all}
-use Rattle.header.specs.Header.{rowInRange, limitsInRange, headerFits, tableAt, imageHeader, writeHeader}
-use Rattle.header.proofs.Laws.{image-length}
+use Rattle.header.specs.Header.{tableAt}
 use Rattle.decimal.specs.Ascii.{ascii}
 use Rattle.decimal.specs.Decimal.{decimalIn, decimal, digit}
 use Rattle.turnover_input.specs.Fields.{stuck, more, first, item, numbersOf}
@@ -31,10 +28,8 @@ use Rattle.reset.proofs.ClockRange.{vector-range}
 use Rattle.reset.proofs.Formed.{initial-well-formed, step-well-formed}
 use Rattle.reset.specs.Worked.{lines, pair, listing}
 use Rattle.reset.specs.WorkedStates.{headers}
-use Rattle.rules.specs.Setup.{headerOf}
-use Rattle.rules.proofs.Laws.{block-back, well-made-accepted}
 use Rattle.area.specs.Layout.{image}
-use Rattle.area_calls.specs.Calls.{stepOn, setupOn}
+use Rattle.area_calls.specs.Calls.{stepOn}
 use Rattle.area_calls.proofs.Demand3.{step-on-image}
 use Rattle.turnover_settings.specs.declared.Run.{Run}
 use Rattle.turnover_settings.specs.declared.Stage.the-variants.{Setting, Stepping}
@@ -42,6 +37,7 @@ use Rattle.turnover_settings.specs.Settings.{limitSet, linkSet, settingsBlock, 
 use Rattle.turnover_commands.specs.Run.{Standing, Telling, standing, stepText, lastNumber, stepMade, obeyed}
 use Rattle.turnover_session.specs.Turnover.{transcript, beginning, turnover}
 use Rattle.turnover_listing.specs.Listing.{listingInput, listingOutput}
+use Rattle.turnover_listing.proofs.SetupLaws.{headBlock, settingRun, made, set-up}
 
 -- ---- steps over the image of a state print as the network answers
 abbrev commandOf : Step → Command
@@ -106,7 +102,7 @@ abbrev block : List ℕ
 block = linkSet (blank 512) 0 1 2
 
 abbrev setting : Run
-setting = record { stage = Setting; n = 2; t = 7; allowances = pair .allowances; number = 0 }
+setting = settingRun pair
 
 table-is : tableAt 8 block 32 ≡ pair .limits
 unfolding limitSet blank tableAt upto
@@ -116,24 +112,8 @@ block-long : length block ≡ 512
 unfolding limitSet blank
 block-long = refl
 
-fields-fit : headerFits (headerOf pair) (pair .limits) ≡ true
-unfolding headerFits limitsInRange rowInRange every
-fields-fit = refl
-
-abbrev head : List ℕ
-head = imageHeader (headerOf pair) (pair .limits)
-
-made : settingsBlock block setting ≡ wrote head
-unfolding settingsBlock writeHeader
-made = rw (table-is, fields-fit, block-long) (ap wrote (splice-all block head (image-length (headerOf pair) (pair .limits) ∙ sym block-long)))
-
 abbrev accepted : (wellMade pair ≡ true) × (networkRules pair ≡ true)
 accepted = headers .listing-accepted
-
-set-up : setUp block (blank 65536) setting ≡ wrote (image pair (initial vector pair))
-unfolding setUp setupOn
-set-up =
-    rw (made, eq-eqb (length (blank 65536)) 65536 (blank-length 65536), well-made-accepted pair (accepted .0), block-back pair (accepted .0), accepted .1)
 
 -- ---- the whole listing
 later : List (List ℕ)
@@ -168,10 +148,11 @@ set-lines ls = refl
 fit : StepsFit listing
 fit = (refl, (refl, (refl, (refl, (refl, (refl, (refl, (refl, (refl, (refl, (refl, tt)))))))))))
 
-first-step : transcript (standing setting block (blank 65536)) steps ≡ transcript (at pair 7 (pair .allowances) head 0 (image pair (initial vector pair))) steps
+first-step : transcript (standing setting block (blank 65536)) steps ≡ transcript (at pair 7 (pair .allowances) (headBlock pair) 0 (image pair (initial vector pair))) steps
 first-step =
-    same-line (before 2 7 (pair .allowances) block (blank 65536)) (behind 2 7 (pair .allowances) block (blank 65536) head (image pair (initial vector pair))) (ascii "enter 0 501") later (Enter 0 501) (says .0)
-    (first-line 2 7 (pair .allowances) block (blank 65536) head (image pair (initial vector pair)) made set-up (enter 0 501))
+    same-line (before 2 7 (pair .allowances) block (blank 65536)) (behind 2 7 (pair .allowances) block (blank 65536) (headBlock pair) (image pair (initial vector pair))) (ascii "enter 0 501") later (Enter 0 501) (says .0)
+    (first-line 2 7 (pair .allowances) block (blank 65536) (headBlock pair) (image pair (initial vector pair)) (made pair block table-is block-long (accepted .0))
+    (rw (accepted .1) at (set-up pair block table-is block-long (accepted .0))) (enter 0 501))
 
 computed : printed 0 pair (initial vector pair) listing ≡ listingOutput
 unfolding lines entryText modeText refusedText opening modeWord decimal decimalIn
@@ -181,4 +162,4 @@ pub whole-listing : turnover listingInput ≡ listingOutput
 unfolding turnover
 whole-listing =
     rw lines-are (set-lines steps ∙ first-step
-    ∙ prints pair 7 (pair .allowances) head (initial vector pair) (initial-well-formed vector-range pair (accepted .0) (accepted .1)) listing fit steps says 0 (omega arith) ∙ computed)
+    ∙ prints pair 7 (pair .allowances) (headBlock pair) (initial vector pair) (initial-well-formed vector-range pair (accepted .0) (accepted .1)) listing fit steps says 0 (omega arith) ∙ computed)

@@ -1,2 +1,3 @@
+pub mod Ceilings
 pub mod Listing
 pub mod Marked

@@ -6,7 +6,6 @@ use reference::header::Header;
 use reference::network::{Item, Message, State, Step};
 use reference::random::Rng;
 use reference::record::{Kind, Record, NO_PEER};
-use reference::turnover::DEFAULT_LIMIT;
 use reference::{archive, area, Counts};
 
 /// Items that a busy link holds, of 34 places.
@@ -194,17 +193,19 @@ pub fn lone_script(steps: usize) -> Vec<u8> {
 }
 
 /// A script for `turnover` of eight stations: on each link messages up to its
-/// limit, sent and received, with an entry here and there; then a reset.
+/// limit, sent and received, with an entry here and there; then a reset. The
+/// limit is written, so that what is timed does not hang on the default.
 pub fn network_script(steps: usize) -> Vec<u8> {
+    const LIMIT: u8 = 8;
     let mut text = String::from("net 8 60000\n");
     for i in 0..8 {
         text.push_str(&format!("allow {i} 1000\n"));
         for j in 0..i {
-            text.push_str(&format!("link {i} {j}\n"));
+            text.push_str(&format!("link {i} {j} {LIMIT}\n"));
         }
     }
     let mut round = Vec::new();
-    for k in 0..DEFAULT_LIMIT {
+    for k in 0..LIMIT {
         for (i, j) in pairs() {
             round.push(format!("send {i} {j} {k}\n"));
         }

@@ -9,7 +9,7 @@ use std::process::{Command, Stdio};
 use std::thread;
 
 use comparison::cases;
-use reference::generate::{mutated_script, script, script_text};
+use reference::generate::{mutated_script, pairs_of, script, script_text, Shape};
 use reference::random::Rng;
 use reference::turnover::turnover;
 
@@ -78,6 +78,62 @@ fn long_script() {
     });
 }
 
+/// Networks whose links write their limit or leave it out, with the least
+/// ceiling that the sums allow and with one less. The sums are made here.
+#[test]
+fn default_limits() {
+    let program = program();
+    cases("default_limits", 150, |rng| {
+        let shape = rng.pick(&[Shape::Tree, Shape::Ring, Shape::Star, Shape::Mixed]);
+        let n = rng.range(2, 8) as usize;
+        let mut sums = vec![0; n];
+        let mut settings = String::new();
+        for (i, sum) in sums.iter_mut().enumerate() {
+            *sum = rng.below(4);
+            settings += &format!("allow {i} {sum}\n");
+        }
+        for (i, j) in pairs_of(rng, shape, n) {
+            let any = rng.range(1, 32);
+            let limit = rng.pick(&[None, None, Some(8), Some(any)]);
+            let written = limit.map_or(String::new(), |limit| format!(" {limit}"));
+            settings += &format!("link {i} {j}{written}\n");
+            for station in [i, j] {
+                sums[station] += 2 * limit.unwrap_or(16);
+            }
+        }
+        let least = sums.into_iter().max().expect("two stations or more");
+        for (ceiling, printed) in [(least, ""), (least - 1, "no 3\n")] {
+            let input = format!("net {n} {ceiling}\n{settings}");
+            assert_eq!(turnover(input.as_bytes()), printed.as_bytes(), "{input}");
+            compare(&program, input.as_bytes());
+        }
+    });
+}
+
+/// How many sends in a phase a link takes: sixteen where its line has no limit,
+/// the written limit where it has one, by the last line for the two stations.
+#[test]
+fn sends_up_to_the_limit() {
+    let program = program();
+    for (links, limit) in [
+        ("link 0 1\n", 16),
+        ("link 1 0\n", 16),
+        ("link 0 1 8\n", 8),
+        ("link 0 1 8\nlink 1 0\n", 16),
+        ("link 0 1\nlink 1 0 8\n", 8),
+        ("link 0 1 \nlink 0 1 3\n", 3),
+        ("link 0 1 3\nlink 0 1 \n", 3),
+    ] {
+        for (i, j) in [(0, 1), (1, 0)] {
+            let input = format!("net 2 64\n{links}") + &format!("send {i} {j} 9\n").repeat(20);
+            compare(&program, input.as_bytes());
+            let printed = String::from_utf8(run(&program, input.as_bytes())).expect("a text");
+            let entries = printed.lines().filter(|line| line.contains("entry"));
+            assert_eq!(entries.count(), limit, "{input}");
+        }
+    }
+}
+
 #[test]
 fn odd_inputs() {
     let program = program();
@@ -115,5 +171,5 @@ fn examples() {
         assert_eq!(run(&program, &input), expected, "{}", path.display());
         assert_eq!(turnover(&input), expected, "{}", path.display());
     }
-    assert!(count >= 30, "{count} examples");
+    assert!(count >= 40, "{count} examples");
 }

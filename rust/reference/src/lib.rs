@@ -1,7 +1,8 @@
-//! A second implementation of the specification (document 01), written
-//! straight from its text in plain Rust. It is meant to be compared with the
-//! proved library on many inputs, and shares no code and no definition with it
-//! but the layout of the state area.
+//! A second implementation of the specification (document 01, with the changes
+//! of document 02 that docs/CHANGES.md lists), written straight from its text in
+//! plain Rust. It is meant to be compared with the proved library on many
+//! inputs, and shares no code and no definition with it but the layout of the
+//! state area.
 //!
 //! Names follow the standard terms of distributed systems: a *message* is the
 //! document's note, a *timestamp* its stamp, *happened-before* its recorded
@@ -17,7 +18,7 @@
 //! | [`network`] | 'The network', 'What a station holds', 'The steps', 'State area and host' |
 //! | [`area`], [`in_place`] | 'State area and host', with the layout of docs/LAYOUT.md |
 //! | [`causality`] | 'Plain network and recorded order', demand 3 |
-//! | [`turnover`] | 'turnover' |
+//! | [`turnover`] | 'turnover'; document 02, CR 1 |
 //! | [`random`], [`generate`] | none: inputs for tests and comparisons |
 
 #![forbid(unsafe_code)]

@@ -8,8 +8,8 @@ use crate::network::{Answer, Outcome, State, Step};
 use crate::refusal::Refusal;
 use crate::MAX_STATIONS;
 
-/// The limit of a link line without one.
-pub const DEFAULT_LIMIT: u8 = 8;
+/// The limit of a link line without one (document 02, CR 1).
+pub const DEFAULT_LIMIT: u8 = 16;
 
 /// A well-made line.
 #[derive(Clone, Copy, Debug, PartialEq, Eq)]
@@ -28,7 +28,7 @@ pub enum Line {
         /// A
         allowance: u16,
     },
-    /// `link i j L`; without L it is 8.
+    /// `link i j L`; without L it is [`DEFAULT_LIMIT`].
     Link {
         /// i
         station: usize,

@@ -162,10 +162,10 @@ fn replaced_and_removed() {
     assert_eq!(run(&["net 2 4", "link 0 1 33", "link 1 0 2"]), "");
     assert_eq!(run(&["net 2 4", "link 0 1 2", "link 1 0"]), "no 3\n");
     assert_eq!(
-        run(&["net 2 16", "link 0 1 2", "link 1 0", "send 0 1 5"]),
+        run(&["net 2 32", "link 0 1 2", "link 1 0", "send 0 1 5"]),
         "1 entry 0 0 1 0\n"
     );
-    assert_eq!(run(&["net 2 15", "link 0 1"]), "no 3\n");
+    assert_eq!(run(&["net 2 31", "link 0 1 2", "link 1 0"]), "no 3\n");
     assert_eq!(run(&["net 1 9", "link 0 1 2", "link 1 0 0"]), "");
     assert_eq!(run(&["net 1 9", "link 0 1 2"]), "no 3\n");
     assert_eq!(run(&["net 2 9", "link 0 1 2", "link 0 1 0"]), "no 3\n");
@@ -189,6 +189,42 @@ fn replaced_and_removed() {
         run(&["net 1 09", "net 1 9", "start 0"]),
         "bad\n1 mode 1 0 normal\n"
     );
+}
+
+/// A link line without a limit means 16, and one that writes a limit means
+/// that: the ceiling tells them apart.
+#[test]
+fn default_limit() {
+    assert_eq!(run(&["net 2 32", "link 0 1"]), "");
+    assert_eq!(run(&["net 2 31", "link 0 1"]), "no 3\n");
+    assert_eq!(run(&["net 2 16", "link 0 1 8"]), "");
+    assert_eq!(run(&["net 2 15", "link 0 1 8"]), "no 3\n");
+    assert_eq!(run(&["net 2 16", "link 0 1"]), "no 3\n");
+    assert_eq!(run(&["net 2 32", "link 0 1 17"]), "no 3\n");
+    // Allowances count too, and a station in the middle has two links.
+    assert_eq!(run(&["net 2 35", "allow 1 3", "link 1 0"]), "");
+    assert_eq!(run(&["net 2 34", "allow 1 3", "link 1 0"]), "no 3\n");
+    assert_eq!(run(&["net 3 64", "link 0 1", "link 2 1"]), "");
+    assert_eq!(run(&["net 3 63", "link 0 1", "link 2 1"]), "no 3\n");
+    assert_eq!(run(&["net 3 48", "link 0 1", "link 2 1 8"]), "");
+    assert_eq!(run(&["net 3 47", "link 0 1", "link 2 1 8"]), "no 3\n");
+    // The later line counts, with a limit or without.
+    assert_eq!(run(&["net 2 16", "link 0 1", "link 1 0 8"]), "");
+    assert_eq!(run(&["net 2 16", "link 0 1 8", "link 1 0"]), "no 3\n");
+    // Sixteen sends in a phase, either way.
+    for (i, j) in [(0, 1), (1, 0)] {
+        let send = format!("send {i} {j} 5");
+        let mut lines = vec!["net 2 32", "link 0 1"];
+        lines.resize(lines.len() + 17, &send);
+        let printed = run(&lines);
+        let last: Vec<&str> = printed.lines().skip(15).collect();
+        let entry = if i == 0 {
+            "16 entry 0 0 16 0"
+        } else {
+            "16 entry 0 1 0 16"
+        };
+        assert_eq!(last, [entry, "17 no 6"]);
+    }
 }
 
 #[test]
@@ -324,7 +360,7 @@ fn bad_lines() {
 fn printed_counts() {
     assert_eq!(
         run(&[
-            "net 3 60",
+            "net 3 64",
             "allow 2 1",
             "link 0 1",
             "link 1 2",
@@ -412,9 +448,13 @@ fn random_scripts() {
     let seed = 41;
     println!("seed {seed}");
     let mut rng = Rng::new(seed);
-    let (mut bad, mut refused, mut steps) = (0, [0; 2], 0);
+    let (mut bad, mut refused, mut steps, mut unsaid) = (0, [0; 2], 0, 0);
     for _ in 0..4000 {
         let lines = generate::script(&mut rng, 80);
+        unsaid += lines
+            .iter()
+            .filter(|line| matches!(line, ScriptLine::Link(_, _, None)))
+            .count();
         let empty_last = lines.last().is_some_and(|last| last.text().is_empty());
         let last_feed = empty_last || rng.chance(1, 2);
         let text = generate::script_text(&lines, last_feed);
@@ -432,8 +472,9 @@ fn random_scripts() {
             steps += usize::from(line.first().is_some_and(u8::is_ascii_digit));
         }
     }
-    println!("bad {bad}, setups refused {refused:?}, steps {steps}");
+    println!("bad {bad}, setups refused {refused:?}, steps {steps}, limits unsaid {unsaid}");
     assert!(bad > 5000 && refused[0] > 200 && refused[1] > 500 && steps > 50_000);
+    assert!(unsaid > 500);
 }
 
 /// The shape of the output of any input: numbered lines count on from 1, and a

@@ -120,7 +120,7 @@ pub fn network(rng: &mut Rng, wish: NetworkWish) -> Header {
     let most_limit = if wish.small {
         rng.pick(&[1, 2, 3])
     } else {
-        rng.pick(&[1, 2, 4, 8, u64::from(MAX_LIMIT)])
+        rng.pick(&[1, 2, 4, 8, 16, u64::from(MAX_LIMIT)])
     };
     for (i, j) in pairs_of(rng, shape, n) {
         let limit = |rng: &mut Rng| {

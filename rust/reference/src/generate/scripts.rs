@@ -243,7 +243,7 @@ pub fn script(rng: &mut Rng, most_steps: usize) -> Vec<ScriptLine> {
             let limit = header.limits[i][j];
             if limit > 0 || rng.chance(1, 20) {
                 let (a, b) = if rng.chance(1, 2) { (i, j) } else { (j, i) };
-                let unsaid = limit == DEFAULT_LIMIT && rng.chance(1, 2);
+                let unsaid = limit == DEFAULT_LIMIT && rng.chance(3, 4);
                 told.push(ScriptLine::Link(a, b, (!unsaid).then_some(limit)));
             }
         }
