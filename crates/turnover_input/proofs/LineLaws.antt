@@ -1,4 +1,4 @@
--- An input that comes in parts. Assumes nothing.
+-- The lines of an input: in parts, and joined. Assumes nothing.
 use Prim.Native.Nat.{ℕ, _+_, _/_, _%_}
 use native.Mathlib.Omega.{arith}
 use mathlib.Core.Path.{_≡_, refl, _∙_, sym, ap}

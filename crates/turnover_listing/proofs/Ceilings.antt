@@ -34,6 +34,7 @@ abbrev two : ℕ → ℕ → Config
 two t l = link 0 1 l (net 2 t)
 
 module _ (l : ℕ) (some : 1 ≤ l) (few : l ≤ 32) where
+  -- its limits, which are the same for every ceiling
   abbrev limits : List (List ℕ)
   limits = two 1 l .limits
 
@@ -81,7 +82,7 @@ module _ (l : ℕ) (some : 1 ≤ l) (few : l ≤ 32) where
     unfolding networkRules
     rules = rw (diagonal, both-ways, above, reached) (within (ltb t (l + l)) refl)
 
-    -- setup at the end of the two lines
+    -- setup at the end of the two lines, with the limits in the block in the making
     block : List ℕ
     block = linkSet (blank 512) 0 1 l
 
