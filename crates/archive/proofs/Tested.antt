@@ -15,7 +15,7 @@ use Rattle.record.specs.Record.{wellMadeRecord}
 use Rattle.record.proofs.Laws as record-laws
 use Rattle.entries.specs.Starts.{recordStart}
 use Rattle.entries.specs.Entries.{countOf, recordOf, bodyFits}
-use Rattle.entries.proofs.Laws.{start-is, well-made-parts, well-made-count}
+use Rattle.entries.proofs.Laws.{well-made-parts, well-made-count}
 use Rattle.archive.specs.Archive.{blockOf, blocks, archiveTest, records, recordAt}
 use Rattle.archive.proofs.Laws.{test-blocks, block-parts}
 
@@ -90,7 +90,6 @@ module _ (a : List ℕ) (tested : archiveTest a ≡ true) where
     unfolding recordAt recordOf blockOf
     record-place =
         let t : k / 15 + 1 < length a / 512 = omega (arith, test-blocks a tested, in-blocks) in
-        let s : recordStart (k % 15) ≡ 16 + k % 15 * 32 = start-is (k % 15) (omega arith) in
         rw (lt-ltb _ _ t) (sym (part-part a 32 (recordStart (k % 15)) 512 ((k / 15 + 1) * 512) (omega arith)))
 
     pub record-well-made : wellMadeRecord (recordAt a k) ≡ true

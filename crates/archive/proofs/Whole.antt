@@ -14,8 +14,9 @@ use Rattle.codec.proofs.Fronts.{bytes-take, bytes-drop}
 use Rattle.header.specs.Header.{tableAt, parseHeader, imageHeader}
 use Rattle.header.specs.declared.Header.{Header}
 use Rattle.header.proofs.Laws as header-laws
+use Rattle.entries.specs.Starts.{recordStart}
 use Rattle.entries.specs.Entries.{countOf, recordOf, imageEntries}
-use Rattle.entries.proofs.Laws.{start-is, well-made-count, recordBytes, accepted-is-image}
+use Rattle.entries.proofs.Laws.{well-made-count, recordBytes, accepted-is-image}
 use Rattle.archive.specs.Archive.{blockOf, blocks, archiveTest, records, recordAt}
 use Rattle.archive.proofs.Laws.{test-parts, test-blocks, block-parts}
 use Rattle.archive.proofs.Tested.{full, record-place}
@@ -126,7 +127,8 @@ module _ (a : List ℕ) (bytes : AreBytes a) (tested : archiveTest a ≡ true) w
       rw e (joined-is (countOf l) 32 16 l _ (λ (k : ℕ) (d : k < countOf l).
       let i : (b * 15 + k) / 15 ≡ b = omega arith in
       let j : (b * 15 + k) % 15 ≡ k = omega arith in
-      (rw (i, j) at (record-place a tested (b * 15 + k) (omega arith))) ∙ ap (λ (x : ℕ). take 32 (drop x l)) (start-is k (omega arith))))
+      let s : 16 + k * 32 ≡ recordStart k = omega arith in
+      rw s (rw (i, j) at (record-place a tested (b * 15 + k) (omega arith)))))
 
   -- it is the image of its header fields, its limits and its records
   pub archive-is-image : imageArchive (parseHeader (take 512 a)) (tableAt 8 (take 512 a) 32) (records a) (recordAt a) ≡ a

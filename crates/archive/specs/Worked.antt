@@ -13,7 +13,6 @@ use Rattle.record.specs.Record.{peerFits, recordFits, imageRecord, wellMadeReco
 use Rattle.record.specs.declared.Record.{Record}
 use Rattle.header.specs.Header.{rowInRange, limitsInRange, headerFits, tableAt, tableOf, headerBody, imageHeader, wellMadeHeader}
 use Rattle.header.specs.declared.Header.{Header}
-use Rattle.entries.specs.Starts.{recordStarts, recordStart, recordsEnd}
 use Rattle.entries.specs.Entries.{recordOf, frontFits, bodyFits, wellMadeEntries, entriesBody, imageEntries}
 use Rattle.block_test.specs.BlockTest.{hasLink, peerKnown, recordKnown, allKnown, blockFits}
 use Rattle.archive.specs.Archive.{blockOf, blocks, blocksFit, archiveTest}
@@ -120,7 +119,7 @@ pub record NameRules : Type 0 where
   pub station-alone : recordKnown (stations 2) bothWays (event 1 2 255 1 0 0) ≡ false
 
 pub worked : BlockRules × RecordRules × NameRules
-unfolding every total blank upto weighted checkOf sealed sealOf recordFits peerFits imageRecord wellMadeRecord rowInRange limitsInRange headerFits tableAt tableOf headerBody imageHeader wellMadeHeader recordStarts recordStart recordsEnd recordOf frontFits bodyFits wellMadeEntries entriesBody imageEntries countsFit hasLink peerKnown recordKnown blockOf blocks allKnown blockFits blocksFit archiveTest
+unfolding every total blank upto weighted checkOf sealed sealOf recordFits peerFits imageRecord wellMadeRecord rowInRange limitsInRange headerFits tableAt tableOf headerBody imageHeader wellMadeHeader recordOf frontFits bodyFits wellMadeEntries entriesBody imageEntries countsFit hasLink peerKnown recordKnown blockOf blocks allKnown blockFits blocksFit archiveTest
 worked = (
   record {
     no-entries = refl;

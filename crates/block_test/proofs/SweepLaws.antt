@@ -20,10 +20,10 @@ use Rattle.clock.specs.Range.{ceilingOf, countsFit}
 use Rattle.header.specs.declared.Header.{Header}
 use Rattle.record.specs.Record.{peerFits, recordFits, parseRecord, wellMadeRecord}
 use Rattle.record.proofs.Laws.{well-made-parts}
-use Rattle.entries.specs.Starts.{recordStart, recordsEnd}
+use Rattle.entries.specs.Starts.{recordStart}
 use Rattle.checksum.specs.Check.{sealed}
 use Rattle.entries.specs.Entries.{countOf, storedNumber, recordOf, fieldsFit, frontFits, tailFits, bodyFits, wellMadeEntries}
-use Rattle.entries.proofs.Laws.{start-is, end-is, front-parts}
+use Rattle.entries.proofs.Laws.{front-parts}
 use Rattle.front_table.specs.Fronts.{Fronts, placeOf}
 use Rattle.block_test.specs.BlockTest.{peerKnown, recordKnown, allKnown, blockFits}
 use Rattle.block_test.specs.Sweep.{countAt, countsTest, frontTest, spareTest, phaseTest, recordTest, Looked, soundTest}
@@ -123,39 +123,38 @@ module _ (h : Header) (m : List (List ℕ)) (f l : List ℕ) (small : h .n ≤ 8
 
 -- ---- the places of a block
 module _ (l : List ℕ) where
-  part-at : (k i : ℕ) → k < 15 → i < 32 → getD (recordOf l k) i 0 ≡ getD l (16 + k * 32 + i) 0
+  part-at : (k i : ℕ) → i < 32 → getD (recordOf l k) i 0 ≡ getD l (recordStart k + i) 0
   unfolding recordOf
-  part-at k i h b = getD-take 32 (drop (recordStart k) l) i 0 b ∙ getD-drop (recordStart k) l i 0 ∙ ap (λ (x : ℕ). getD l (x + i) 0) (start-is k h)
+  part-at k i b = getD-take 32 (drop (recordStart k) l) i 0 b ∙ getD-drop (recordStart k) l i 0
 
-  count-part : (k i : ℕ) → k < 15 → i < 8 → numAt 2 (recordOf l k) (16 + i * 2) ≡ countAt l i k
-  count-part k i h b =
-      let e : 16 + k * 32 + (16 + i * 2) ≡ 32 + k * 32 + 2 * i = omega arith in
-      let f : 16 + k * 32 + (16 + i * 2 + 1) ≡ 32 + k * 32 + 2 * i + 1 = omega arith in
-      rw (part-at k (16 + i * 2) h (omega arith), part-at k (16 + i * 2 + 1) h (omega arith), e, f)
+  count-part : (k i : ℕ) → i < 8 → numAt 2 (recordOf l k) (16 + i * 2) ≡ countAt l i k
+  count-part k i b =
+      let e : recordStart k + (16 + i * 2) ≡ 32 + k * 32 + 2 * i = omega arith in
+      let f : recordStart k + (16 + i * 2 + 1) ≡ 32 + k * 32 + 2 * i + 1 = omega arith in
+      rw (part-at k (16 + i * 2) (omega arith), part-at k (16 + i * 2 + 1) (omega arith), e, f)
 
-  counts-part : (n t k : ℕ) → k < 15 → countsFit n t (numsAt 2 8 (recordOf l k) 16) ≡ every 8 (λ (i : ℕ). leb (countAt l i k) (ceilingOf n t i))
+  counts-part : (n t k : ℕ) → countsFit n t (numsAt 2 8 (recordOf l k) 16) ≡ every 8 (λ (i : ℕ). leb (countAt l i k) (ceilingOf n t i))
   unfolding countsFit
-  counts-part n t k h =
-      every-same 8 _ _ (λ (i : ℕ) (b : i < 8). ap (λ (x : ℕ). leb x (ceilingOf n t i)) (nums-get 2 8 (recordOf l k) 16 i b ∙ count-part k i h b))
+  counts-part n t k =
+      every-same 8 _ _ (λ (i : ℕ) (b : i < 8). ap (λ (x : ℕ). leb x (ceilingOf n t i)) (nums-get 2 8 (recordOf l k) 16 i b ∙ count-part k i b))
 
   counts-all : (n t : ℕ) → countsTest n t l ≡ every 15 (λ (k : ℕ). countsFit n t (numsAt 2 8 (recordOf l k) 16))
   unfolding countsTest
-  counts-all n t = every-swap 8 15 (λ (i k : ℕ). leb (countAt l i k) (ceilingOf n t i)) ∙ every-same 15 _ _ (λ (k : ℕ) (b : k < 15). sym (counts-part n t k b))
+  counts-all n t = every-swap 8 15 (λ (i k : ℕ). leb (countAt l i k) (ceilingOf n t i)) ∙ every-same 15 _ _ (λ (k : ℕ) (b : k < 15). sym (counts-part n t k))
 
-  module _ (count : ℕ) (low : 1 ≤ count) (high : count ≤ 15) (tail : tailFits l count ≡ true) where
-    tail-zero : (q : ℕ) → 16 + count * 32 ≤ q → q < 510 → getD l q 0 ≡ 0
+  module _ (count : ℕ) (high : count ≤ 15) (tail : tailFits l count ≡ true) where
+    tail-zero : (q : ℕ) → recordStart count ≤ q → q < 510 → getD l q 0 ≡ 0
     tail-zero q a b =
-        let e : recordsEnd count ≡ 16 + count * 32 = end-is count low high in
-        let z : total (take (510 - (16 + count * 32)) (drop (16 + count * 32) l)) ≡ 0 = eqb-true _ 0 (rw e at tail) in
-        let y = zero-at (take (510 - (16 + count * 32)) (drop (16 + count * 32) l)) (q - (16 + count * 32)) z in
-        let g : 16 + count * 32 + (q - (16 + count * 32)) ≡ q = omega arith in
-        rw (getD-take (510 - (16 + count * 32)) (drop (16 + count * 32) l) (q - (16 + count * 32)) 0 (omega arith), getD-drop (16 + count * 32) l (q - (16 + count * 32)) 0, g) at y
+        let e : ℕ = recordStart count in
+        let y = zero-at (take (510 - e) (drop e l)) (q - e) (eqb-true _ 0 tail) in
+        let g : e + (q - e) ≡ q = omega arith in
+        rw (getD-take (510 - e) (drop e l) (q - e) 0 (omega arith), getD-drop e l (q - e) 0, g) at y
 
     -- a place with no record has counts that fit
     counts-further : (n t : ℕ) → countsTest n t l ≡ every count (λ (k : ℕ). countsFit n t (numsAt 2 8 (recordOf l k) 16))
     counts-further n t =
         counts-all n t ∙ every-further count 15 _ high
-        (λ (k : ℕ) (a : count ≤ k) (b : k < 15). counts-part n t k b ∙ every-of 8 _ (λ (i : ℕ) (c : i < 8).
+        (λ (k : ℕ) (a : count ≤ k) (b : k < 15). counts-part n t k ∙ every-of 8 _ (λ (i : ℕ) (c : i < 8).
         rw (tail-zero (32 + k * 32 + 2 * i) (omega arith) (omega arith), tail-zero (32 + k * 32 + 2 * i + 1) (omega arith) (omega arith)) (le-leb 0 (ceilingOf n t i) (omega arith))))
 
 -- the records by first bytes, spare bytes and phases
@@ -231,22 +230,22 @@ front-refused h m l number last e = rw (e, and-false (eqb (length l) 512))
 module _ (l : List ℕ) (sized : length l ≡ 512) (bytes : AreBytes l) where
   part-sized : (k : ℕ) → k < 15 → length (recordOf l k) ≡ 32
   unfolding recordOf
-  part-sized k h = simp (length-take, length-drop) (omega (arith, start-is k h))
+  part-sized k h = simp (length-take, length-drop) (omega arith)
 
   part-bytes : (k : ℕ) → AreBytes (recordOf l k)
   unfolding recordOf
   part-bytes k = bytes-take 32 (drop (recordStart k) l) (bytes-drop (recordStart k) l bytes)
 
   module _ (h : Header) (m : List (List ℕ)) (f : List ℕ) (small : h .n ≤ 8) (known : Fronts (h .n) m f) where
-    records-law : (count : ℕ) → 1 ≤ count → count ≤ 15 → tailFits l count ≡ true
+    records-law : (count : ℕ) → count ≤ 15 → tailFits l count ≡ true
         → (every count (λ (k : ℕ). wellMadeRecord (recordOf l k)) && every count (λ (k : ℕ). recordKnown h m (parseRecord (recordOf l k))))
         ≡ (every count (λ (k : ℕ). recordTest f (recordOf l k)) && countsTest (h .n) (h .t) l)
-    records-law count a b z =
+    records-law count b z =
         let w : ℕ → Bool = λ (k : ℕ). wellMadeRecord (recordOf l k) in
         let v : ℕ → Bool = λ (k : ℕ). recordKnown h m (parseRecord (recordOf l k)) in
         let t : ℕ → Bool = λ (k : ℕ). recordTest f (recordOf l k) in
         let c : ℕ → Bool = λ (k : ℕ). countsFit (h .n) (h .t) (numsAt 2 8 (recordOf l k) 16) in
-        rw (counts-further l count a b z (h .n) (h .t))
+        rw (counts-further l count b z (h .n) (h .t))
         (sym (every-both (λ (k : ℕ). w k && v k) w v (λ (k : ℕ). refl) count)
         ∙ every-same count (λ (k : ℕ). w k && v k) (λ (k : ℕ). t k && c k) (λ (k : ℕ) (e : k < count). record-law h m f (recordOf l k) small known (part-sized k (omega arith)) (part-bytes k))
         ∙ every-both (λ (k : ℕ). t k && c k) t c (λ (k : ℕ). refl) count)
@@ -257,7 +256,7 @@ module _ (l : List ℕ) (sized : length l ≡ 512) (bytes : AreBytes l) where
     block-law number last front =
         let p = front-parts l front in
         rw (eq-eqb (length l) 512 sized, front)
-        (gather (every (countOf l) (λ (k : ℕ). wellMadeRecord (recordOf l k))) (tailFits l (countOf l)) (eqb (storedNumber l) number) (last || eqb (countOf l) 15) (every (countOf l) (λ (k : ℕ). recordKnown h m (parseRecord (recordOf l k)))) (countsTest (h .n) (h .t) l) (every (countOf l) (λ (k : ℕ). recordTest f (recordOf l k))) (λ (z : tailFits l (countOf l) ≡ true). records-law (countOf l) (p .2) (p .3) z))
+        (gather (every (countOf l) (λ (k : ℕ). wellMadeRecord (recordOf l k))) (tailFits l (countOf l)) (eqb (storedNumber l) number) (last || eqb (countOf l) 15) (every (countOf l) (λ (k : ℕ). recordKnown h m (parseRecord (recordOf l k)))) (countsTest (h .n) (h .t) l) (every (countOf l) (λ (k : ℕ). recordTest f (recordOf l k))) (λ (z : tailFits l (countOf l) ≡ true). records-law (countOf l) (p .3) z))
 
     shuffle : (z c f : Bool) → (z && (c && f)) ≡ (f && (z && true) && c)
     shuffle false c f = rw (and-false f)

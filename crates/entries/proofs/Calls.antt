@@ -1,6 +1,6 @@
 -- The calls of an entries block, both ways: what a block holds is written as that block, and what is written is read. Assumes nothing.
 use Prim.Native.Nat.{ℕ, _+_, _*_, _/_, _%_, _≤_, _<_}
-use mathlib.Core.Path.{_≡_, refl, _∙_, sym, ap}
+use mathlib.Core.Path.{_≡_, refl, _∙_}
 use mathlib.Core.List.{List}
 use mathlib.Core.Bool.{Bool, true, false, _||_, cond}
 use native.Mathlib.Omega.{arith}
@@ -13,11 +13,10 @@ use Rattle.codec.specs.Splice.{splice}
 use Rattle.codec.specs.Every.{every}
 use Rattle.codec.specs.Written.{refused, wrote}
 use Rattle.codec.proofs.EveryLaws.{both, join}
-use Rattle.codec.proofs.SpliceLaws.{part-part}
 use Rattle.record.specs.Record.{wellMadeRecord}
 use Rattle.entries.specs.Entries.{countOf, storedNumber, recordOf, bodyFits, wellMadeEntries, imageEntries, recordsFit, entriesFit, writeEntries, readEntries, readRecord}
 use Rattle.entries.specs.declared.EntriesRead.the-variants.{Block, Refused}
-use Rattle.entries.proofs.Laws.{start-is, front-parts, well-made-parts, well-made-length, well-made-count, recordBytes, records-part, image-length, accepted-is-image, reads-back}
+use Rattle.entries.proofs.Laws.{front-parts, well-made-parts, well-made-length, well-made-count, recordBytes, record-part, records-part, image-length, accepted-is-image, reads-back}
 
 -- ---- from the block
 -- the records' bytes of a block, 32 for each record that it counts
@@ -29,21 +28,19 @@ record-bytes-length l h =
     simp (length-take, length-drop) (omega arith)
 
 -- record by record
-pub record-bytes-at : (l : List ℕ) (k : ℕ) → k < countOf l → countOf l ≤ 15 → take 32 (drop (k * 32) (recordBytes l)) ≡ recordOf l k
-unfolding recordBytes recordOf
-record-bytes-at l k h c =
-    part-part l 32 (k * 32) (countOf l * 32) 16 (omega arith) ∙ ap (λ (x : ℕ). take 32 (drop x l)) (sym (start-is k (omega arith)))
+pub record-bytes-at : (l : List ℕ) (k : ℕ) → k < countOf l → take 32 (drop (k * 32) (recordBytes l)) ≡ recordOf l k
+unfolding recordBytes
+record-bytes-at l k h = record-part l k (countOf l * 32) (omega arith)
 
 -- what an accepted block holds is what the writer takes
 pub accepted-fits : (l : List ℕ) → wellMadeEntries l ≡ true → entriesFit (storedNumber l) (recordBytes l) ≡ true
 unfolding entriesFit recordBytes bodyFits
 accepted-fits l h =
     let w = well-made-parts l h in
-    let c = well-made-count l h in
     let m : length (recordBytes l) ≡ countOf l * 32 = record-bytes-length l h in
     let z : length (recordBytes l) % 32 ≡ 0 = omega arith in
     let q : length (recordBytes l) / 32 ≡ countOf l = omega arith in
-    let r : recordsFit (recordBytes l) (countOf l) ≡ true = records-part l (countOf l) (c .1) ∙ both (every (countOf l) (λ (k : ℕ). wellMadeRecord (recordOf l k))) _ (w .2) .0 in
+    let r : recordsFit (recordBytes l) (countOf l) ≡ true = records-part l (countOf l) ∙ both (every (countOf l) (λ (k : ℕ). wellMadeRecord (recordOf l k))) _ (w .2) .0 in
     join _ _ (le-leb 1 (storedNumber l) (front-parts l (w .1) .5)) (join _ _ (eq-eqb _ 0 z) (rw q r))
 
 -- each accepted block is the one that the writer makes from what it holds

@@ -13,15 +13,15 @@ use Rattle.codec.specs.Num.{AreBytes, bytesOf, numAt}
 use Rattle.codec.specs.Every.{every, total, allZero, blank}
 use Rattle.checksum.specs.Check.{sealed, sealOf}
 use Rattle.codec.proofs.BlankLaws.{blank-length}
-use Rattle.codec.proofs.EveryLaws.{total-append, both, every-at, every-same, zero-part, zeros-blank, zero-sum}
+use Rattle.codec.proofs.EveryLaws.{total-append, both, every-same, zero-part, zeros-blank, zero-sum}
 use Rattle.codec.proofs.SpliceLaws.{part-part}
 use Rattle.codec.proofs.Fronts.{front-part, front-num, front-byte, front-none}
 use Rattle.codec.proofs.Has.{Has, has-last, has-more, has-num, has-part}
 use Rattle.checksum.proofs.CheckLaws.{seal-length, seal-seals, sealed-is}
 use Rattle.checksum.proofs.OneByte.{one-byte}
 use Rattle.record.specs.Record.{wellMadeRecord}
-use Rattle.entries.specs.Starts.{recordStarts, recordStart, recordsEnd}
-use Rattle.entries.specs.Entries.{countOf, storedNumber, recordOf, fieldsFit, frontFits, bodyFits, wellMadeEntries, entriesBody, imageEntries, recordsFit, entriesFit}
+use Rattle.entries.specs.Starts.{recordStart}
+use Rattle.entries.specs.Entries.{countOf, storedNumber, recordOf, fieldsFit, frontFits, tailFits, bodyFits, wellMadeEntries, entriesBody, imageEntries, recordsFit, entriesFit}
 
 pub body-length : (number : ℕ) (rs : List ℕ) → length rs ≤ 480 → length (entriesBody number rs) ≡ 510
 unfolding entriesBody
@@ -34,23 +34,21 @@ pub image-length : (number : ℕ) (rs : List ℕ) → length rs ≤ 480 → leng
 unfolding imageEntries
 image-length number rs h = seal-length (entriesBody number rs) (body-length number rs h)
 
--- ---- the table of starts
-starts-test : every 15 (λ (k : ℕ). eqb (recordStart k) (16 + k * 32)) ≡ true
-unfolding every recordStart recordStarts
-starts-test = refl
-
--- the starts go up by 32
-pub start-is : (k : ℕ) → k < 15 → recordStart k ≡ 16 + k * 32
-start-is k h = eqb-true _ _ (every-at 15 (λ (k : ℕ). eqb (recordStart k) (16 + k * 32)) k starts-test h)
-
-pub end-is : (count : ℕ) → 1 ≤ count → count ≤ 15 → recordsEnd count ≡ 16 + count * 32
-unfolding recordsEnd
-end-is count h g = omega (arith, start-is (count - 1) (omega arith))
-
+-- ---- the records
 -- the part of a block that is lent for a record
 pub part-record : (l : List ℕ) (k o : ℕ) → o ≡ recordStart k → take (o + 32 - o) (drop o l) ≡ recordOf l k
 unfolding recordOf
 part-record l k o e = let f : o + 32 - o ≡ 32 = omega arith in rw (f, e)
+
+-- record k of the n bytes from 16 on
+pub record-part : (l : List ℕ) (k n : ℕ) → k * 32 + 32 ≤ n → take 32 (drop (k * 32) (take n (drop 16 l))) ≡ recordOf l k
+unfolding recordOf
+record-part l k n h = let e : recordStart k ≡ 16 + k * 32 = omega arith in rw e (part-part l 32 (k * 32) n 16 h)
+
+-- the records of a block are those of its part from 16 on
+pub records-part : (l : List ℕ) (count : ℕ) → recordsFit (take (count * 32) (drop 16 l)) count ≡ every count (λ (k : ℕ). wellMadeRecord (recordOf l k))
+unfolding recordsFit
+records-part l count = every-same count _ _ (λ (k : ℕ) (b : k < count). ap wellMadeRecord (record-part l k (count * 32) (omega arith)))
 
 -- ---- zeros behind the records
 -- the places with no record, and the bytes behind all of them
@@ -60,13 +58,6 @@ tail-split l e h =
     let b : e + (496 - e) ≡ 496 = omega arith in
     rw (a, take-add (496 - e) 14 (drop e l), drop-drop (496 - e) e l, b, total-append (take (496 - e) (drop e l)) (take 14 (drop 496 l)))
     (zero-sum (total (take (496 - e) (drop e l))) (total (take 14 (drop 496 l))))
-
--- the records of a block are those of its part from 16 on
-pub records-part : (l : List ℕ) (count : ℕ) → count ≤ 15 → recordsFit (take (count * 32) (drop 16 l)) count ≡ every count (λ (k : ℕ). wellMadeRecord (recordOf l k))
-unfolding recordsFit recordOf
-records-part l count h =
-    every-same count _ _
-    (λ (k : ℕ) (b : k < count). ap wellMadeRecord (part-part l 32 (k * 32) (count * 32) 16 (omega arith) ∙ ap (λ (x : ℕ). take 32 (drop x l)) (sym (start-is k (omega arith)))))
 
 -- ---- the tests, part by part
 pub fields-parts : (l : List ℕ) → fieldsFit l ≡ true
@@ -105,7 +96,7 @@ well-made-count l h = let p = front-parts l (well-made-parts l h .1) in (p .2, p
 unfoldable pub recordBytes : List ℕ → List ℕ
 recordBytes l = take (countOf l * 32) (drop 16 l)
 
-zeros-behind : (l : List ℕ) → bodyFits l (countOf l) ≡ true → allZero (take (510 - recordsEnd (countOf l)) (drop (recordsEnd (countOf l)) l)) ≡ true
+zeros-behind : (l : List ℕ) → bodyFits l (countOf l) ≡ true → tailFits l (countOf l) ≡ true
 unfolding bodyFits
 zeros-behind l h = both (every (countOf l) (λ (k : ℕ). wellMadeRecord (recordOf l k))) _ h .1
 
@@ -118,10 +109,9 @@ accepted-is-image l b h =
     let n : length l ≡ 512 = w .0 in
     let count : ℕ = countOf l in
     let rs : List ℕ = take (count * 32) (drop 16 l) in
-    let lo : 1 ≤ count = p .2 in
     let hi : count ≤ 15 = p .3 in
     let m : length rs ≡ count * 32 = simp (length-take, length-drop) (omega arith) in
-    let e : recordsEnd count ≡ 16 + count * 32 = end-is count lo hi in
+    let e : recordStart count ≡ 16 + count * 32 = omega arith in
     let z : allZero (take (510 - (16 + count * 32)) (drop (16 + count * 32) l)) ≡ true = rw e at (zeros-behind l (w .2)) in
     let c1 : getD l 1 0 ≡ length rs / 32 = omega arith in
     let k : 510 - (16 + count * 32) ≡ 494 - length rs = omega arith in
@@ -195,12 +185,9 @@ module _ (number : ℕ) (rs : List ℕ) (few : length rs ≤ 480) (some : 1 ≤ 
   number-is = has-num 4 number (places .number-at) small
 
   record-is : (k : ℕ) → k < length rs / 32 → recordOf x k ≡ take 32 (drop (k * 32) rs)
-  unfolding recordOf
   record-is k h =
-      let s : recordStart k ≡ 16 + k * 32 = start-is k (omega arith) in
       let r : take (length rs) (drop 16 x) ≡ rs = has-part rs (length rs) (places .records-at) refl in
-      let q : take 32 (drop (k * 32) (take (length rs) (drop 16 x))) ≡ take 32 (drop (16 + k * 32) x) = part-part x 32 (k * 32) (length rs) 16 (omega arith) in
-      rw s (sym (rw r at q))
+      sym (rw r at (record-part x k (length rs) (omega arith)))
 
   sealed-x : sealed x ≡ true
   unfolding x imageEntries
@@ -217,8 +204,7 @@ module _ (number : ℕ) (rs : List ℕ) (few : length rs ≤ 480) (some : 1 ≤ 
   unfolding bodyFits recordsFit
   body-x =
       let f = fit-parts in
-      let m : length rs / 32 * 32 ≡ length rs = omega (arith, f .1) in
-      let e : recordsEnd (length rs / 32) ≡ 16 + length rs = end-is (length rs / 32) some (omega arith) ∙ ap (λ (k : ℕ). 16 + k) m in
+      let e : recordStart (length rs / 32) ≡ 16 + length rs = omega (arith, f .1) in
       let k : 510 - (16 + length rs) ≡ 494 - length rs = omega arith in
       let z : allZero (take (494 - length rs) (drop (16 + length rs) x)) ≡ true = rw (has-part (blank (494 - length rs)) (494 - length rs) (places .rest-at) (blank-length (494 - length rs))) (zeros-blank (494 - length rs)) in
       let r : every (length rs / 32) (λ (k : ℕ). wellMadeRecord (recordOf x k)) ≡ true = every-same (length rs / 32) _ _ (λ (k : ℕ) (h : k < length rs / 32). ap wellMadeRecord (record-is k h)) ∙ f .2 in

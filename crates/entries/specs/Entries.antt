@@ -1,5 +1,5 @@
 -- The entries block (document 01, "Archive blocks"): 512 bytes with one to fifteen records. Assumes nothing.
-use Prim.Native.Nat.{ℕ, _+_, _*_, _-_, _/_, _%_}
+use Prim.Native.Nat.{ℕ, _*_, _-_, _/_, _%_}
 use mathlib.Core.List.{List, [], _∷_, _++_}
 use mathlib.Core.Bool.{Bool, _&&_, _||_, cond}
 use lib.Dec.{eqb, leb, ltb}
@@ -10,7 +10,7 @@ use Rattle.codec.specs.Every.{every, allZero, blank}
 use Rattle.checksum.specs.Check.{blockSize, sealed, sealOf}
 use Rattle.codec.specs.Written.{Written, refused, wrote}
 use Rattle.record.specs.Record.{wellMadeRecord}
-use Rattle.entries.specs.Starts.{recordStart, recordsEnd}
+use Rattle.entries.specs.Starts.{recordStart}
 use Rattle.entries.specs.declared.EntriesRead.{EntriesRead}
 use Rattle.entries.specs.declared.EntriesRead.the-variants.{Block, Refused}
 
@@ -37,7 +37,7 @@ frontFits l = sealed l && fieldsFit l
 
 -- the places past the last record are zero up to the check
 abbrev pub tailFits : List ℕ → ℕ → Bool
-tailFits l count = allZero (take (510 - recordsEnd count) (drop (recordsEnd count) l))
+tailFits l count = allZero (take (510 - recordStart count) (drop (recordStart count) l))
 
 -- every record is well made, and the places past the last one are zero up to the check
 unfoldable pub bodyFits : List ℕ → ℕ → Bool

@@ -1,14 +1,14 @@
--- Where the records of an entries block start. Assumes nothing.
-use Prim.Native.Nat.{ℕ, _+_, _-_}
-use mathlib.Core.List.{List, [], _∷_}
-use lib.ListN.{getD}
+-- Where the records of an entries block start (document 02, CR 3). Assumes nothing.
+use Prim.Native.Nat.{ℕ, _+_, _*_}
+use mathlib.Core.Path.{_≡_, refl}
+use mathlib.Core.List.{[], _∷_}
+use Rattle.codec.specs.Rows.{upto}
 
-unfoldable pub recordStarts : List ℕ
-recordStarts = 16 ∷ 48 ∷ 80 ∷ 112 ∷ 144 ∷ 176 ∷ 208 ∷ 240 ∷ 272 ∷ 304 ∷ 336 ∷ 368 ∷ 400 ∷ 432 ∷ 464 ∷ []
+-- record k, from 0 to 14, starts here; the last of `count` records ends where the next would start
+abbrev pub recordStart : ℕ → ℕ
+recordStart k = 16 + 32 * k
 
-unfoldable pub recordStart : ℕ → ℕ
-recordStart k = getD recordStarts k 0
-
--- where the last of `count` records ends
-unfoldable pub recordsEnd : ℕ → ℕ
-recordsEnd count = recordStart (count - 1) + 32
+-- the fifteen starts are those of the drawing
+pub starts-as-drawn : upto 15 recordStart ≡ 16 ∷ 48 ∷ 80 ∷ 112 ∷ 144 ∷ 176 ∷ 208 ∷ 240 ∷ 272 ∷ 304 ∷ 336 ∷ 368 ∷ 400 ∷ 432 ∷ 464 ∷ []
+unfolding upto
+starts-as-drawn = refl

@@ -13,12 +13,12 @@ pub enum EntriesRead {
     Refused(u8),
 }
 
-// Where record k starts, in the table of starts, which go up by 32.
+// Where record k starts.
 pub fn start_of(k: usize) -> usize
     requires { ⌜ k < 15 ⌝ }
     ensures { λ r. ⌜ r ≡ recordStart k ⌝ }
 {
-    16 + k * 32
+    16 + 32 * k
 }
 
 // The first `count` records of 32 bytes each are well made.

@@ -4,7 +4,7 @@
 use comparison::{cases, judged, refusal, written};
 use melontime::raw;
 use reference::check::seal;
-use reference::entries::{self, block_untested, EntriesBlock, STARTS};
+use reference::entries::{self, block_untested, EntriesBlock};
 use reference::generate::{
     any_network, any_ranged_header, any_record, damaged_header_block, spoil_record, HeaderDamage,
 };
@@ -232,6 +232,57 @@ fn each_byte_of_an_entries_block() {
     });
 }
 
+/// Blocks whose records stand elsewhere than one behind the other from byte
+/// 16: from another byte on, or further apart or nearer together. Each has its
+/// check; those that are right after all are accepted.
+#[test]
+fn records_at_other_starts() {
+    cases("records_at_other_starts", 40, |rng| {
+        for count in [1, 2, 7, 14, 15] {
+            let records = some_records(rng, count);
+            for from in [0, 8, 15, 16, 17, 32, 48] {
+                for stride in [16, 31, 32, 33, 48] {
+                    let mut block = [0; 512];
+                    for (k, record) in records.chunks(32).enumerate() {
+                        let at = from + stride * k;
+                        if at + 32 <= 510 {
+                            block[at..at + 32].copy_from_slice(record);
+                        }
+                    }
+                    block[..8].copy_from_slice(&[2, count as u8, 0, 0, 1, 0, 0, 0]);
+                    seal(&mut block);
+                    compare_entries_read(rng, &block);
+                    if from == 16 && (stride == 32 || count == 1) {
+                        assert_eq!(raw::read_entries(&block), 1016 + count as u64);
+                    }
+                }
+            }
+        }
+    });
+}
+
+/// Each record of a block of each size is read, by both, where it was put.
+#[test]
+fn each_record_of_a_block() {
+    cases("each_record_of_a_block", 20, |rng| {
+        for count in 1..=15 {
+            let records = some_records(rng, count);
+            let mut block = [0xa5; 512];
+            assert_eq!(raw::write_entries(7, &records, &mut block), 0);
+            assert_eq!(block, block_untested(7, &records));
+            assert_eq!(block[16..16 + 32 * count], records);
+            for (k, record) in records.chunks(32).enumerate() {
+                let mut ours = [0xa5; 32];
+                assert_eq!(raw::read_record(&block, k as u32, &mut ours), 0);
+                assert_eq!(ours, record);
+            }
+            let mut ours = [0xa5; 32];
+            assert_eq!(raw::read_record(&block, count as u32, &mut ours), 12);
+            assert_eq!(ours, [0xa5; 32]);
+        }
+    });
+}
+
 /// Verdicts by both.
 fn compare_verdict(first: &[u8], second: &[u8]) {
     let expected = judged(order::verdict(first, second));
@@ -309,7 +360,7 @@ fn each_byte_of_a_record() {
             }
         }
         let mut block = block_untested(1, &right);
-        let at = STARTS[0] + rng.index(32);
+        let at = entries::start(0) + rng.index(32);
         block[at] = block[at].wrapping_add(1);
         seal(&mut block);
         compare_entries_read(rng, &block);

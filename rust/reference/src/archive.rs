@@ -4,7 +4,7 @@
 //! records are numbered from 0. The network rules are not tested here.
 
 use crate::check::BLOCK;
-use crate::entries::{self, EntriesBlock, MAX_RECORDS, STARTS};
+use crate::entries::{self, EntriesBlock, MAX_RECORDS};
 use crate::header::Header;
 use crate::order::{compare, verdict_of_records, Verdict};
 use crate::record::{Kind, Record, RECORD};
@@ -80,7 +80,7 @@ impl<'a> Archive<'a> {
         if r >= self.count {
             return Err(Refusal::NoSuchRecord);
         }
-        let start = BLOCK * (1 + r / MAX_RECORDS) + STARTS[r % MAX_RECORDS];
+        let start = BLOCK * (1 + r / MAX_RECORDS) + entries::start(r % MAX_RECORDS);
         Ok(&self.bytes[start..start + RECORD])
     }
 
@@ -158,7 +158,8 @@ impl<'a> Reader<'a> {
 
     /// The bytes of the record it stands on.
     pub fn record(&self) -> &'a [u8] {
-        let start = BLOCK * (1 + self.number / MAX_RECORDS) + STARTS[self.number % MAX_RECORDS];
+        let start =
+            BLOCK * (1 + self.number / MAX_RECORDS) + entries::start(self.number % MAX_RECORDS);
         &self.archive.bytes[start..start + RECORD]
     }
 

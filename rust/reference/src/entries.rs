@@ -1,4 +1,5 @@
-//! Entries blocks: 'Archive blocks' in document 01.
+//! Entries blocks: 'Archive blocks' in document 01, with the starts of
+//! document 02, CR 3.
 
 use crate::check::{all_zero, is_sealed, seal, BLOCK};
 use crate::record::{is_record, RECORD};
@@ -7,10 +8,10 @@ use crate::refusal::Refusal;
 /// Most records of a block.
 pub const MAX_RECORDS: usize = 15;
 
-/// Where the records start: the table of the document.
-pub const STARTS: [usize; MAX_RECORDS] = [
-    16, 48, 80, 112, 144, 176, 208, 240, 272, 304, 336, 368, 400, 432, 464,
-];
+/// Where record k starts, from 0 to 14 (document 02, CR 3).
+pub const fn start(k: usize) -> usize {
+    16 + 32 * k
+}
 
 /// An entries block that has passed its test.
 #[derive(Clone, Copy, Debug)]
@@ -30,8 +31,8 @@ impl<'a> EntriesBlock<'a> {
             return Err(Refusal::Malformed);
         }
         let spare = all_zero(&block[2..4]) && all_zero(&block[8..16]) && all_zero(&block[496..510]);
-        let places = STARTS.iter().enumerate().all(|(k, &start)| {
-            let place = &block[start..start + RECORD];
+        let places = (0..MAX_RECORDS).all(|k| {
+            let place = &block[start(k)..start(k) + RECORD];
             if k < count {
                 is_record(place)
             } else {
@@ -58,7 +59,7 @@ impl<'a> EntriesBlock<'a> {
     /// Record k, from 0; 12 where the block has none.
     pub fn record(&self, k: usize) -> Result<&'a [u8], Refusal> {
         if k < self.count() {
-            Ok(&self.block[STARTS[k]..STARTS[k] + RECORD])
+            Ok(&self.block[start(k)..start(k) + RECORD])
         } else {
             Err(Refusal::NoSuchRecord)
         }
@@ -72,8 +73,8 @@ pub fn block_untested(number: u32, records: &[u8]) -> [u8; BLOCK] {
     block[0] = 2;
     block[1] = (records.len() / RECORD) as u8;
     block[4..8].copy_from_slice(&number.to_le_bytes());
-    for (record, &start) in records.chunks(RECORD).zip(&STARTS) {
-        block[start..start + record.len()].copy_from_slice(record);
+    for (k, record) in (0..MAX_RECORDS).zip(records.chunks(RECORD)) {
+        block[start(k)..start(k) + record.len()].copy_from_slice(record);
     }
     seal(&mut block);
     block

@@ -12,7 +12,7 @@
 //! | module | section of document 01 |
 //! |---|---|
 //! | [`refusal`] | 'State area and host', the table of numbers |
-//! | [`check`], [`header`], [`entries`], [`record`] | 'Archive blocks' |
+//! | [`check`], [`header`], [`entries`], [`record`] | 'Archive blocks'; document 02, CR 3 |
 //! | [`order`] | 'Plain network and recorded order', timestamp order and verdicts |
 //! | [`archive`] | 'Archive blocks', archives, readers and lists |
 //! | [`network`] | 'The network', 'What a station holds', 'The steps', 'State area and host' |

@@ -1,7 +1,7 @@
 //! Blocks and records: 'Archive blocks' of document 01.
 
 use reference::check::{block_check, is_sealed, seal, BLOCK};
-use reference::entries::{self, EntriesBlock, STARTS};
+use reference::entries::{self, EntriesBlock};
 use reference::generate::{self, HeaderDamage, RuleBreak};
 use reference::header::Header;
 use reference::network;
@@ -344,9 +344,29 @@ fn entries_bytes() {
     assert_eq!(block, want);
     assert_eq!(entries::read_number(block), Ok(0x0001_0203));
     assert_eq!(entries::read_count(block), Ok(2));
-    for (k, start) in STARTS.into_iter().enumerate() {
-        assert_eq!(start, 16 + 32 * k);
+}
+
+/// Fifteen different records stand one behind the other from byte 16 to 495,
+/// and each is read where it stands.
+#[test]
+fn fifteen_records() {
+    let records: Vec<u8> = (1..=15)
+        .flat_map(|register| {
+            let record = Record {
+                register,
+                ..own_record()
+            };
+            record.to_bytes()
+        })
+        .collect();
+    let mut block = buffer(512);
+    entries::write(1, &records, &mut block).unwrap();
+    assert_eq!(block[16..496], records);
+    let opened = EntriesBlock::open(&block).unwrap();
+    for (k, record) in records.chunks(RECORD).enumerate() {
+        assert_eq!(opened.record(k), Ok(record));
     }
+    assert_eq!(opened.record(15), Err(Refusal::NoSuchRecord));
 }
 
 #[test]

@@ -1,11 +1,12 @@
-//! The page docs/FORMAT.md: its dump, its table of checks and its table of
-//! records are what this crate makes of the same header and records.
+//! The page docs/FORMAT.md: its dump, its table of checks, its starts and its
+//! table of records are what this crate makes of the same header and records.
 
 use std::fs;
 use std::path::Path;
 
 use reference::archive::{self, Archive};
 use reference::check::block_check;
+use reference::entries::{start, MAX_RECORDS};
 use reference::header::Header;
 use reference::order::{compare, Verdict};
 use reference::record::{Kind, Record, NO_PEER};
@@ -211,6 +212,25 @@ fn checks_table() {
     assert_eq!(block_check(&last), 64_530);
     let header = worked().0.to_block().unwrap();
     assert_eq!(block_check(&header), 285);
+}
+
+/// The starts of an entries block's places, as the page lists them.
+#[test]
+fn starts() {
+    let page = page();
+    let mut lists = page
+        .lines()
+        .filter_map(|line| line.strip_prefix("The places start at "));
+    let list = lists.next().expect("a list of starts");
+    assert!(lists.next().is_none(), "two lists of starts");
+    let (list, _) = list.split_once(':').expect("a colon behind the list");
+    let listed: Vec<usize> = list
+        .replace(" and ", ", ")
+        .split(", ")
+        .map(|at| number(at) as usize)
+        .collect();
+    let made: Vec<usize> = (0..MAX_RECORDS).map(start).collect();
+    assert_eq!(listed, made);
 }
 
 /// The verdicts that the page names.

@@ -1,10 +1,9 @@
-use Prim.Native.Nat.{ℕ, _+_, _*_, _-_, _/_, _%_, _<_}
+use Prim.Native.Nat.{ℕ, _+_, _*_, _-_, _/_, _<_}
 use mathlib.Core.Path.{_≡_}
 use native.Mathlib.Omega.{arith}
 use borrow.Author.Tests.{lt-ltb, le-ltb}
 use denote.Ref.{now}
 use lib.ListN.{length}
-use Rattle.entries.proofs.Laws.{start-is}
 use Rattle.archive.specs.Archive.{recordAt}
 use borrow.Author.Needs.{needs}
 use Rattle.archive.proofs.record_at.Statement.{statement}
@@ -13,15 +12,6 @@ use Rattle.archive.proofs.record_at.Tie as tie
 returns : tie.Need-returns
 unfolding recordAt
 returns c = rw (le-ltb _ _ (c .before .if1 .taken))
-
-add-o : tie.Need-add-o
-add-o c = omega (arith, start-is (c .before .before .before .args .k % 15) (omega arith), c .start-of .ensures)
-
-add-e : tie.Need-add-e
-add-e c = omega (arith, start-is (c .before .before .before .args .k % 15) (omega arith), c .start-of .ensures)
-
-part-result-end-2 : tie.Need-part-result-end-2
-part-result-end-2 c = omega (arith, start-is (c .before .before .before .args .k % 15) (omega arith), c .start-of .ensures)
 
 returns-2 : tie.Need-returns-2
 unfolding recordAt
@@ -35,5 +25,5 @@ pub record-at-spec : {M : Type 1} → statement M
 record-at-spec =
     tie.close
     (tie.spec (λ c. search needs) (λ c. search needs) (λ c. search needs) (λ c. search needs) returns
-    (λ c. search needs) (λ c κs. search needs) add-o add-e (λ c. search needs) (λ c. search needs) part-result-end-2
+    (λ c. search needs) (λ c κs. search needs) (λ c. search needs) (λ c. search needs) (λ c. search needs) (λ c. search needs) (λ c. search needs)
     returns-2)

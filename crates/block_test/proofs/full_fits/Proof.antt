@@ -4,8 +4,6 @@ use native.Mathlib.Omega.{arith}
 use denote.Ref.{now}
 use borrow.Author.Needs.{needs}
 use Rattle.checksum.specs.Columns.{Columns}
-use Rattle.entries.specs.Starts.{recordsEnd}
-use Rattle.entries.proofs.Laws.{end-is}
 use Rattle.block_test.specs.Sweep.{Looked, soundTest}
 use Rattle.block_test.proofs.SweepLaws.{looked-none}
 use Rattle.block_test.proofs.full_fits.Statement.{statement}
@@ -51,7 +49,7 @@ records-fit-requires c κs =
 
 returns : tie.Need-returns Inv-loop μ-loop
 unfolding soundTest
-returns c = let e : recordsEnd 15 ≡ 496 = end-is 15 (omega arith) (omega arith) in rw (e, c .before .before .before .records-fit .ensures, c .sealed-columns .ensures)
+returns c = rw (c .before .before .before .records-fit .ensures, c .sealed-columns .ensures)
 
 pub full-fits-spec : {M : Type 1} → statement M
 full-fits-spec =

@@ -3,8 +3,7 @@ use mathlib.Core.Path.{_≡_}
 use native.Mathlib.Omega.{arith}
 use denote.Ref.{now}
 use borrow.Author.Needs.{needs}
-use lib.ListN.{length-take, length-drop}
-use Rattle.entries.proofs.Laws.{start-is, part-record}
+use Rattle.entries.proofs.Laws.{part-record}
 use Rattle.block_test.specs.Sweep.{Looked}
 use Rattle.block_test.proofs.SweepLaws.{looked-more}
 use Rattle.block_test.proofs.look.Statement.{statement}
@@ -15,24 +14,6 @@ Inv-loop known block from end wrong₀ least₀ spare₀ phases₀ k₀ wrong le
 
 abbrev μ-loop : tie.MeasureT-loop
 μ-loop known block from end wrong₀ least₀ spare₀ phases₀ k₀ wrong least spare phases k = end - k
-
-add-e : tie.Need-add-e Inv-loop μ-loop
-add-e c = omega (arith, start-is (c .before .before .loop .k) (omega arith), c .start-of .ensures)
-
-part-part-end : tie.Need-part-part-end Inv-loop μ-loop
-part-part-end c = omega (arith, start-is (c .before .before .loop .k) (omega arith), c .start-of .ensures)
-
-get32-requires : tie.Need-get32-requires Inv-loop μ-loop
-get32-requires c κs = simp (length-take, length-drop) (omega (arith, start-is (c .before .before .before .loop .k) (omega arith), c .before .start-of .ensures))
-
-get16-requires : tie.Need-get16-requires Inv-loop μ-loop
-get16-requires c κs = simp (length-take, length-drop) (omega (arith, start-is (c .before .before .before .before .before .before .loop .k) (omega arith), c .before .before .before .before .start-of .ensures))
-
-get32-requires-2 : tie.Need-get32-requires-2 Inv-loop μ-loop
-get32-requires-2 c κs = simp (length-take, length-drop) (omega (arith, start-is (c .before .before .before .before .before .before .before .before .loop .k) (omega arith), c .before .before .before .before .before .before .start-of .ensures))
-
-get32-requires-3 : tie.Need-get32-requires-3 Inv-loop μ-loop
-get32-requires-3 c κs = simp (length-take, length-drop) (omega (arith, start-is (c .before .before .before .before .before .before .before .before .before .loop .k) (omega arith), c .before .before .before .before .before .before .before .start-of .ensures))
 
 loop-again : tie.Need-loop-again Inv-loop μ-loop
 loop-again c =
@@ -55,6 +36,6 @@ returns c =
 pub look-spec : {M : Type 1} → statement M
 look-spec =
     tie.close
-    (tie.spec Inv-loop μ-loop (λ c. (omega arith, c .before .pre .3)) (λ c κs. omega arith) add-e (λ c. omega arith) (λ c. omega arith) part-part-end
-    get32-requires (λ c κs. search needs) (λ c κs. search needs) (λ c. omega arith) (λ c. omega arith) get16-requires
-    (λ c κs. search needs) get32-requires-2 get32-requires-3 (λ c. omega arith) (λ c. omega arith) loop-again returns)
+    (tie.spec Inv-loop μ-loop (λ c. (omega arith, c .before .pre .3)) (λ c κs. omega arith) (λ c. search needs) (λ c. omega arith) (λ c. omega arith) (λ c. search needs)
+    (λ c κs. search needs) (λ c κs. search needs) (λ c κs. search needs) (λ c. omega arith) (λ c. omega arith) (λ c κs. search needs)
+    (λ c κs. search needs) (λ c κs. search needs) (λ c κs. search needs) (λ c. omega arith) (λ c. omega arith) loop-again returns)

@@ -1,13 +1,13 @@
 use Prim.Native.Nat.{ℕ, _-_, _≤_}
 use mathlib.Core.Path.{_≡_, sym}
 use native.Mathlib.Omega.{arith}
+use borrow.Author.Needs.{needs}
 use denote.Ref.{now}
-use lib.ListN.{length-take, length-drop}
 use Rattle.codec.specs.Every.{every}
 use Rattle.codec.proofs.EveryLaws.{every-none}
 use Rattle.codec.proofs.FlagLaws.{every-turn}
 use Rattle.entries.specs.Entries.{recordOf}
-use Rattle.entries.proofs.Laws.{start-is, part-record}
+use Rattle.entries.proofs.Laws.{part-record}
 use Rattle.block_test.specs.Sweep.{phaseTest}
 use Rattle.block_test.proofs.phases_fit.Statement.{statement}
 use Rattle.block_test.proofs.phases_fit.Tie as tie
@@ -17,15 +17,6 @@ Inv-loop block count ok₀ k₀ ok k = (k ≤ count) × (ok ≡ every k (λ (i :
 
 abbrev μ-loop : tie.MeasureT-loop
 μ-loop block count ok₀ k₀ ok k = count - k
-
-add-e : tie.Need-add-e Inv-loop μ-loop
-add-e c = omega (arith, start-is (c .before .before .loop .k) (omega arith), c .start-of .ensures)
-
-part-get32-end : tie.Need-part-get32-end Inv-loop μ-loop
-part-get32-end c = omega (arith, start-is (c .before .before .loop .k) (omega arith), c .start-of .ensures)
-
-get32-requires : tie.Need-get32-requires Inv-loop μ-loop
-get32-requires c κs = simp (length-take, length-drop) (omega (arith, start-is (c .before .before .before .loop .k) (omega arith), c .before .start-of .ensures))
 
 loop-again : tie.Need-loop-again Inv-loop μ-loop
 loop-again c =
@@ -44,5 +35,5 @@ returns c =
 pub phases-fit-spec : {M : Type 1} → statement M
 phases-fit-spec =
     tie.close
-    (tie.spec Inv-loop μ-loop (λ c. (omega arith, sym (every-none _))) (λ c κs. omega arith) add-e (λ c. omega arith)
-    (λ c. omega arith) part-get32-end get32-requires (λ c. omega arith) (λ c. omega arith) loop-again returns)
+    (tie.spec Inv-loop μ-loop (λ c. (omega arith, sym (every-none _))) (λ c κs. omega arith) (λ c. search needs) (λ c. omega arith)
+    (λ c. omega arith) (λ c. search needs) (λ c κs. search needs) (λ c. omega arith) (λ c. omega arith) loop-again returns)

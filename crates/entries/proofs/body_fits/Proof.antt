@@ -2,35 +2,25 @@ use Prim.Native.Nat.{ℕ, _+_, _*_, _-_}
 use mathlib.Core.Path.{_≡_, _∙_}
 use native.Mathlib.Omega.{arith}
 use denote.Ref.{now}
-use lib.ListN.{length-take, length-drop}
 use Rattle.codec.specs.Every.{every}
 use Rattle.record.specs.Record.{wellMadeRecord}
 use Rattle.entries.specs.Entries.{recordOf, bodyFits}
-use Rattle.entries.proofs.Laws.{start-is, records-part}
+use Rattle.entries.proofs.Laws.{records-part}
 use borrow.Author.Needs.{needs}
 use Rattle.entries.proofs.body_fits.Statement.{statement}
 use Rattle.entries.proofs.body_fits.Tie as tie
-
-add-end : tie.Need-add-end
-add-end c = omega (arith, start-is (c .before .before .args .count - 1) (omega arith), c .start-of .ensures)
-
-part-records-fit-end : tie.Need-part-records-fit-end
-part-records-fit-end c = omega (arith, start-is (c .before .before .args .count - 1) (omega arith), c .start-of .ensures)
-
-records-fit-requires : tie.Need-records-fit-requires
-records-fit-requires c κs = (simp (length-take, length-drop) (omega (arith, start-is (c .before .before .before .args .count - 1) (omega arith), c .before .start-of .ensures)), omega arith)
 
 returns : tie.Need-returns
 unfolding bodyFits
 returns c =
     let count = c .before .before .before .before .before .args .count in
     let l = now (c .before .before .before .before .before .args .s) in
-    let e : c .before .before .before .start-of .result + 32 - 16 ≡ count * 32 = omega (arith, start-is (count - 1) (omega arith), c .before .before .before .start-of .ensures) in
-    let r : c .before .records-fit .result ≡ every count (λ (k : ℕ). wellMadeRecord (recordOf l k)) = (rw e at (c .before .records-fit .ensures)) ∙ records-part l count (omega arith) in
+    let e : c .before .before .before .start-of .result + 32 - 16 ≡ count * 32 = omega (arith, c .before .before .before .start-of .ensures) in
+    let r : c .before .records-fit .result ≡ every count (λ (k : ℕ). wellMadeRecord (recordOf l k)) = (rw e at (c .before .records-fit .ensures)) ∙ records-part l count in
     rw (r, c .tail-fits .ensures)
 
 pub body-fits-spec : {M : Type 1} → statement M
 body-fits-spec =
     tie.close
-    (tie.spec (λ c. search needs) (λ c κs. search needs) add-end (λ c. search needs) (λ c. search needs)
-    part-records-fit-end records-fit-requires (λ c κs. search needs) returns)
+    (tie.spec (λ c. search needs) (λ c κs. search needs) (λ c. search needs) (λ c. search needs) (λ c. search needs)
+    (λ c. search needs) (λ c κs. search needs) (λ c κs. search needs) returns)

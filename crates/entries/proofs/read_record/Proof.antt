@@ -4,7 +4,7 @@ use native.Mathlib.Omega.{arith}
 use borrow.Author.Tests.{not-true, not-false, lt-ltb, le-ltb}
 use denote.Ref.{now}
 use Rattle.entries.specs.Entries.{recordOf, readRecord}
-use Rattle.entries.proofs.Laws.{start-is, well-made-length, well-made-count}
+use Rattle.entries.proofs.Laws.{well-made-length, well-made-count}
 use borrow.Author.Needs.{needs}
 use Rattle.entries.proofs.read_record.Statement.{statement}
 use Rattle.entries.proofs.read_record.Tie as tie
@@ -28,10 +28,10 @@ start-of-requires : tie.Need-start-of-requires
 start-of-requires c κs = let p = well-made-count (now (c .before .before .before .before .before .before .before .args .s)) (sym (c .before .before .before .before .well-made .ensures) ∙ not-false _ (c .before .before .before .if1 .left)) in omega (arith, c .before .before .count-of .ensures)
 
 add-e : tie.Need-add-e
-add-e c = let p = well-made-count (now (c .before .before .before .before .before .before .before .before .args .s)) (sym (c .before .before .before .before .before .well-made .ensures) ∙ not-false _ (c .before .before .before .before .if1 .left)) in omega (arith, c .before .before .before .count-of .ensures, start-is (c .before .before .before .before .before .before .before .before .args .k) (omega (arith, c .before .before .before .count-of .ensures)), c .start-of .ensures)
+add-e c = omega (arith, start-of-requires (c .before) tt, c .start-of .ensures)
 
 part-put-bytes-end : tie.Need-part-put-bytes-end
-part-put-bytes-end c = let p = well-made-count (now (c .before .before .before .before .before .before .before .before .before .args .s)) (sym (c .before .before .before .before .before .before .well-made .ensures) ∙ not-false _ (c .before .before .before .before .before .if1 .left)) in let n = well-made-length (now (c .before .before .before .before .before .before .before .before .before .args .s)) (sym (c .before .before .before .before .before .before .well-made .ensures) ∙ not-false _ (c .before .before .before .before .before .if1 .left)) in omega (arith, c .before .before .before .before .count-of .ensures, start-is (c .before .before .before .before .before .before .before .before .before .args .k) (omega (arith, c .before .before .before .before .count-of .ensures)), c .before .start-of .ensures)
+part-put-bytes-end c = omega (arith, count-of-requires (c .before .before .before .before .before) (c .before .before .before .before .count-of .lifetimes), start-of-requires (c .before .before) tt, c .before .start-of .ensures)
 
 returns-4 : tie.Need-returns-4
 unfolding readRecord recordOf

@@ -6,7 +6,7 @@ use expected_output::{
     table, Fields,
 };
 use reference::check::BLOCK;
-use reference::entries::{self, EntriesBlock, STARTS};
+use reference::entries::{self, start, EntriesBlock, MAX_RECORDS};
 use reference::header::Header;
 use reference::order::{verdict, Verdict};
 use reference::record::{is_record, RECORD};
@@ -279,7 +279,7 @@ fn ill(good: &[u8], at: usize, x: u8) {
         records[32 * k + at] = x;
         number(entries::write(1, &records[..480], &mut [7; 511])) == 1
     };
-    let read = |k: &usize| resealed(Form::Entries, good, STARTS[*k] + at, x) == 1;
+    let read = |k: &usize| resealed(Form::Entries, good, start(*k) + at, x) == 1;
     let n = (0..15).filter(written).count() + (0..15).filter(read).count();
     println!("records ill by byte {at} {x}: {n}");
 }
@@ -305,12 +305,12 @@ fn ills(good: &[u8]) {
 }
 
 fn own_fields(good: &[u8]) {
-    let same = |&k: &usize| resealed(Form::Entries, good, STARTS[k] + 2, (k % 8) as u8) == 1;
+    let same = |&k: &usize| resealed(Form::Entries, good, start(k) + 2, (k % 8) as u8) == 1;
     println!(
         "records with peer and station the same refused: {}",
         (0..15).filter(same).count()
     );
-    let none = |&k: &usize| resealed(Form::Entries, good, STARTS[k] + 16 + 2 * (k % 8), 0) == 1;
+    let none = |&k: &usize| resealed(Form::Entries, good, start(k) + 16 + 2 * (k % 8), 0) == 1;
     println!(
         "records with own count 0 refused: {}",
         (0..15).filter(none).count()
@@ -391,8 +391,8 @@ fn fifteen_records(good: &[u8]) {
     no_block(&[good, &[0]].concat());
     ills(good);
     own_fields(good);
-    for (k, start) in STARTS.iter().enumerate() {
-        println!("start {k}: {start}");
+    for k in 0..MAX_RECORDS {
+        println!("start {k}: {}", start(k));
         fetch(good, k, 32);
     }
 }

@@ -4,7 +4,7 @@ use super::{any_network, any_ranged_header, any_register, damaged_header_block, 
 use super::{near_bounds, other_length, some_byte, spoil_check, HeaderDamage};
 use crate::archive;
 use crate::check::{seal, BLOCK};
-use crate::entries::{MAX_RECORDS, STARTS};
+use crate::entries::{start, MAX_RECORDS};
 use crate::header::Header;
 use crate::random::Rng;
 use crate::record::{Kind, Record, NO_PEER, RECORD};
@@ -239,7 +239,7 @@ fn damage_archive(
     let at = k * BLOCK;
     let count = usize::from(bytes[at + 1]);
     let r = rng.index(count);
-    let place = at + STARTS[r];
+    let place = at + start(r);
     let record = records[(k - 1) * MAX_RECORDS + r];
     let n = header.n();
     match way {
@@ -268,7 +268,7 @@ fn damage_archive(
             if k == blocks - 1 || count < 2 {
                 return false;
             }
-            let last = at + STARTS[count - 1];
+            let last = at + start(count - 1);
             bytes[last..last + RECORD].fill(0);
             bytes[at + 1] -= 1;
         }
@@ -282,7 +282,7 @@ fn damage_archive(
             if count == MAX_RECORDS {
                 return false;
             }
-            let past = at + STARTS[count];
+            let past = at + start(count);
             let end = at + 496;
             match rng.below(2) {
                 0 => bytes[past..past + RECORD].copy_from_slice(&record.to_bytes()),
