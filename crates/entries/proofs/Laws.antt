@@ -96,10 +96,6 @@ well-made-count l h = let p = front-parts l (well-made-parts l h .1) in (p .2, p
 unfoldable pub recordBytes : List ℕ → List ℕ
 recordBytes l = take (countOf l * 32) (drop 16 l)
 
-zeros-behind : (l : List ℕ) → bodyFits l (countOf l) ≡ true → tailFits l (countOf l) ≡ true
-unfolding bodyFits
-zeros-behind l h = both (every (countOf l) (λ (k : ℕ). wellMadeRecord (recordOf l k))) _ h .1
-
 -- each accepted block is the one that the writer makes from what the reader gives of it
 pub accepted-is-image : (l : List ℕ) → AreBytes l → wellMadeEntries l ≡ true → imageEntries (storedNumber l) (recordBytes l) ≡ l
 unfolding imageEntries entriesBody bodyFits recordBytes
@@ -112,7 +108,7 @@ accepted-is-image l b h =
     let hi : count ≤ 15 = p .3 in
     let m : length rs ≡ count * 32 = simp (length-take, length-drop) (omega arith) in
     let e : recordStart count ≡ 16 + count * 32 = omega arith in
-    let z : allZero (take (510 - (16 + count * 32)) (drop (16 + count * 32) l)) ≡ true = rw e at (zeros-behind l (w .2)) in
+    let z : allZero (take (510 - (16 + count * 32)) (drop (16 + count * 32) l)) ≡ true = rw e at (both (every count (λ (k : ℕ). wellMadeRecord (recordOf l k))) (tailFits l count) (w .2) .1) in
     let c1 : getD l 1 0 ≡ length rs / 32 = omega arith in
     let k : 510 - (16 + count * 32) ≡ 494 - length rs = omega arith in
     let f1 = front-byte l b 0 [] (front-none l b) (omega arith) in

@@ -261,7 +261,8 @@ fn records_at_other_starts() {
     });
 }
 
-/// Each record of a block of each size is read, by both, where it was put.
+/// Each record of a block of each size, written by the library, is read by both
+/// as it was given.
 #[test]
 fn each_record_of_a_block() {
     cases("each_record_of_a_block", 20, |rng| {
@@ -271,10 +272,12 @@ fn each_record_of_a_block() {
             assert_eq!(raw::write_entries(7, &records, &mut block), 0);
             assert_eq!(block, block_untested(7, &records));
             assert_eq!(block[16..16 + 32 * count], records);
+            let opened = EntriesBlock::open(&block).expect("a block");
             for (k, record) in records.chunks(32).enumerate() {
                 let mut ours = [0xa5; 32];
                 assert_eq!(raw::read_record(&block, k as u32, &mut ours), 0);
                 assert_eq!(ours, record);
+                assert_eq!(opened.record(k), Ok(record));
             }
             let mut ours = [0xa5; 32];
             assert_eq!(raw::read_record(&block, count as u32, &mut ours), 12);
