@@ -170,6 +170,15 @@ static void setup(void) {
     must(melontime_setup(archive, MELONTIME_BLOCK, area, sizeof area) == MELONTIME_DONE, "setup is accepted");
 }
 
+static void try_rest(void) {
+    setup();
+    must(melontime_rest(area, sizeof area) == MELONTIME_REST_YES, "the initial network is at rest");
+    accepted((struct step){SEND, 0, 1, 1});
+    must(melontime_rest(area, sizeof area) == MELONTIME_REST_NO, "a message is under way");
+    accepted((struct step){RECV, 1, 0, 0});
+    must(melontime_rest(area, sizeof area) == MELONTIME_REST_YES, "the message is received");
+}
+
 static void try_refusals(void) {
     uint8_t block[MELONTIME_BLOCK], event[MELONTIME_RECORD];
     uint8_t *station_0 = area + 512;
@@ -236,6 +245,7 @@ int main(void) {
     must(melontime_rest(area, sizeof area) == MELONTIME_REST_YES, "the network is at rest");
     write_archive();
     read_archive();
+    try_rest();
     try_refusals();
     return 0;
 }

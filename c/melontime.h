@@ -106,7 +106,7 @@ uint64_t melontime_recv(uint8_t *area, size_t area_length, uint8_t *event, size_
 uint64_t melontime_start(uint8_t *area, size_t area_length, uint8_t *event, size_t event_length,
                          uint32_t station);
 
-/* Whether every station is normal, and all in one phase. */
+/* Whether every station is normal, all in one phase, and no link holds an item. */
 uint64_t melontime_rest(const uint8_t *area, size_t area_length);
 
 /* The order of two events of one phase, by their records. */

@@ -7,3 +7,4 @@ pub mod TracePlain
 pub mod History
 pub mod Phases
 pub mod Demand3
+pub mod Rest

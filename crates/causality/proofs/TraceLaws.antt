@@ -2,7 +2,7 @@
 use Prim.Native.Nat.{ℕ, zero, suc, _+_, _≤_, _<_}
 use mathlib.Core.Path.{_≡_, refl, sym, ap, _∙_}
 use mathlib.Core.List.{List, [], _∷_, _++_, append-nil}
-use mathlib.Core.Bool.{Bool, true, false, cond}
+use mathlib.Core.Bool.{Bool, true, false, cond, _&&_}
 use native.Mathlib.Omega.{arith}
 use native.Mathlib.Decide.{ℕ-discrete, decLt}
 use lib.Dec.{eqb}
@@ -25,25 +25,34 @@ drop-head [] (suc m) x r h d = clash (cc)
 drop-head (y ∷ l) zero x r h d = (cc, cc)
 drop-head (y ∷ l) (suc m) x r h d = drop-head l m x r h d
 
--- ---- which link a recv is from
+-- ---- which link a send is on, and a recv from
 recv-no-send : (a b : ℕ) (p : Step) → isRecv a b p ≡ true → isSend a b p ≡ false
 recv-no-send a b (enter i g) h = refl
 recv-no-send a b (send i j g) h = clash (sym h)
 recv-no-send a b (recv i j) h = refl
 recv-no-send a b (start i) h = refl
 
-same-link : (a b a′ b′ : ℕ) (p : Step) → isRecv a b p ≡ true → isRecv a′ b′ p ≡ true → (a ≡ a′) × (b ≡ b′)
-same-link a b a′ b′ (enter i g) h k = clash (sym h)
-same-link a b a′ b′ (send i j g) h k = clash (sym h)
-same-link a b a′ b′ (recv i j) h k =
-    let t = both (eqb j a) _ h in
-    let u = both (eqb j a′) _ k in
-    (sym (eqb-true j a (t .0)) ∙ eqb-true j a′ (u .0), sym (eqb-true i b (t .1)) ∙ eqb-true i b′ (u .1))
-same-link a b a′ b′ (start i) h k = clash (sym h)
+same-ends : (x y a b a′ b′ : ℕ) → (eqb x a && eqb y b) ≡ true → (eqb x a′ && eqb y b′) ≡ true → (a ≡ a′) × (b ≡ b′)
+same-ends x y a b a′ b′ h k =
+    let t = both (eqb x a) _ h in
+    let u = both (eqb x a′) _ k in
+    (sym (eqb-true x a (t .0)) ∙ eqb-true x a′ (u .0), sym (eqb-true y b (t .1)) ∙ eqb-true y b′ (u .1))
+
+send-link : (a b a′ b′ : ℕ) (p : Step) → isSend a b p ≡ true → isSend a′ b′ p ≡ true → (a ≡ a′) × (b ≡ b′)
+send-link a b a′ b′ (enter i g) h k = clash (sym h)
+send-link a b a′ b′ (send i j g) h k = same-ends i j a b a′ b′ h k
+send-link a b a′ b′ (recv i j) h k = clash (sym h)
+send-link a b a′ b′ (start i) h k = clash (sym h)
+
+recv-link : (a b a′ b′ : ℕ) (p : Step) → isRecv a b p ≡ true → isRecv a′ b′ p ≡ true → (a ≡ a′) × (b ≡ b′)
+recv-link a b a′ b′ (enter i g) h k = clash (sym h)
+recv-link a b a′ b′ (send i j g) h k = clash (sym h)
+recv-link a b a′ b′ (recv i j) h k = same-ends j i a b a′ b′ h k
+recv-link a b a′ b′ (start i) h k = clash (sym h)
 
 -- ---- entries counted
 module _ (p : Step → Bool) (E : List Accepted) where
-  count-up : (x z : ℕ) → x < z → count p E x + cond (p (entryAt E x .step)) 1 0 ≤ count p E z
+  pub count-up : (x z : ℕ) → x < z → count p E x + cond (p (entryAt E x .step)) 1 0 ≤ count p E z
   count-up x zero l = absurd (omega arith)
   count-up x (suc z) l = by-dec (ℕ-discrete x z) (λ q. rw q (omega arith)) (λ q. let h = count-up x z (omega arith) in omega arith)
 
@@ -84,7 +93,12 @@ module _ (p : Step → Bool) (E : List Accepted) where
 -- ---- one receipt, one send
 pub goes-on : (E : List Accepted) (x y a b : ℕ) → GoesWith E x y → isRecv a b (entryAt E y .step) ≡ true
     → (isSend a b (entryAt E x .step) ≡ true) × (count (isSend a b) E x ≡ count (isRecv a b) E y)
-goes-on E x y a b g r = let t = same-link a b (g .a) (g .b) (entryAt E y .step) r (g .received) in rw (t .0, t .1) (g .sent, g .same-number)
+goes-on E x y a b g r = let t = recv-link a b (g .a) (g .b) (entryAt E y .step) r (g .received) in rw (t .0, t .1) (g .sent, g .same-number)
+
+-- the same by its send
+pub goes-from : (E : List Accepted) (x y a b : ℕ) → GoesWith E x y → isSend a b (entryAt E x .step) ≡ true
+    → (isRecv a b (entryAt E y .step) ≡ true) × (count (isSend a b) E x ≡ count (isRecv a b) E y)
+goes-from E x y a b g r = let t = send-link a b (g .a) (g .b) (entryAt E x .step) r (g .sent) in rw (t .0, t .1) (g .received, g .same-number)
 
 pub goes-one : (E : List Accepted) (x z y : ℕ) → GoesWith E x y → GoesWith E z y → x ≡ z
 goes-one E x z y g h =

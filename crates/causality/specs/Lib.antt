@@ -1,4 +1,5 @@
 pub mod Plain
 pub mod HappenedBefore
 pub mod Sound
+pub mod Rest
 pub mod Worked

@@ -8,7 +8,7 @@ use borrow.Author.Tests.{ne-eqb}
 use Rattle.codec.specs.Num.{AreBytes}
 use Rattle.reset.specs.Clock.{vector}
 use Rattle.reset.specs.State.{Item, message, resetReq, resetDone, linkAt, setLink}
-use Rattle.reset.proofs.Views.{link-set-row}
+use Rattle.reset.proofs.Views.{none-long, link-set-row}
 use Rattle.link.specs.Image.{Queue, itemAt, itemOf as itemAs, itemView}
 use Rattle.link.specs.declared.Item.{Item as CodeItem}
 use Rattle.link.proofs.Laws.{parse-item}
@@ -27,13 +27,9 @@ front : (q : Queue) → 0 < length q → q ≡ getD q 0 resetReq ∷ rest q
 front [] h = absurd (omega arith)
 front (x ∷ q) h = refl
 
-none : (q : Queue) → length q ≡ 0 → q ≡ []
-none [] h = refl
-none (x ∷ q) h = absurd (omega arith)
-
 module _ {a : List ℕ} {i j : ℕ} (k : AtLink a i j) where
   pub holds-none : getD (linkBytes a (j * 8 + i)) 0 0 ≡ 0 → linkAt (stateAt a) j i ≡ []
-  holds-none h = none _ (sym (count-is (k .area) j i (k .j-small) (k .i-small)) ∙ h)
+  holds-none h = none-long _ (sym (count-is (k .area) j i (k .j-small) (k .i-small)) ∙ h)
 
   -- the first, and the others
   pub first-is : 0 < getD (linkBytes a (j * 8 + i)) 0 0 → (x : Item vector) → x ≡ itemAt (linkBytes a (j * 8 + i)) 0 → linkAt (stateAt a) j i ≡ x ∷ rest (linkAt (stateAt a) j i)

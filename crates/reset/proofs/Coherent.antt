@@ -2,6 +2,7 @@
 use Prim.Native.Nat.{ℕ, _<_}
 use mathlib.Core.Path.{_≡_, _∙_}
 use mathlib.Core.Logic.{_≢_}
+use mathlib.Core.List.{List, [], _∷_}
 use native.Mathlib.Omega.{arith}
 use native.Mathlib.Decide.{ℕ-discrete}
 use Rattle.reset.specs.Config.{Config, neighbours}
@@ -9,7 +10,7 @@ use Rattle.reset.proofs.ConfigLaws.{Rules}
 use Rattle.reset.specs.Clock.{Clock}
 use Rattle.reset.specs.State.{State, stationAt, reqSeen}
 use Rattle.reset.specs.Steps.{someNeighbour, noRule, ruleOf, beginReset, turn, Step, step}
-use Rattle.reset.specs.Network.{initialStation, initial}
+use Rattle.reset.specs.Network.{initialStation, initial, run}
 use Rattle.reset.proofs.Views.{none-at, station-set, station-set-other, station-set-link, station-put-all}
 use Rattle.reset.proofs.TurnLaws.{some-none, no-rule-left, station-turn-other}
 use Rattle.reset.proofs.StepLaws.{of-step}
@@ -65,3 +66,7 @@ module _ {K : Clock} (c : Config) (u : Rules c) where
 
   pub step-coherent : (s : State K) → Coherent c s → (p : Step) → Coherent c (step c s p .after)
   step-coherent s h p = record { invariant = step-keeps c u s (h .invariant) p; no-rule = rests-step c s (h .no-rule) p }
+
+  pub run-coherent : (s : State K) → Coherent c s → (ps : List Step) → Coherent c (run c s ps)
+  run-coherent s h [] = h
+  run-coherent s h (p ∷ ps) = run-coherent (step c s p .after) (step-coherent s h p) ps

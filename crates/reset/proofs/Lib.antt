@@ -14,3 +14,4 @@ pub mod Coherent
 pub mod ClockRange
 pub mod FormedParts
 pub mod Formed
+pub mod RestLaws

@@ -1,5 +1,5 @@
--- Laws of every step: the cases of its outcome, that a refused step leaves the state as it was, what an accepted entry's record bears, and
--- that the answer is of the station that took the step. Assumes nothing.
+-- Laws of every step: the cases of its outcome, that a refused step leaves the state as it was, that number 9's bounds are kept, what an accepted
+-- entry's record bears, and that the answer is of the station that took the step. Assumes nothing.
 use Prim.Native.Nat.{ℕ, _<_}
 use mathlib.Core.Path.{_≡_, refl}
 use mathlib.Core.List.{List, [], _∷_}
@@ -10,6 +10,7 @@ use Rattle.reset.specs.Clock.{Clock}
 use Rattle.reset.specs.State.{Mode, normal, mute, standBy, Item, message, resetReq, resetDone, State, stationAt, linkAt, doneSeen, sentTo}
 use Rattle.reset.specs.Bears.{Bears, Taker}
 use Rattle.reset.specs.Steps.{Step, enter, send, recv, start, Entry, refused, entry, Outcome, refuse, guard, inBounds, bounded, doEnter, maySend, doSend, doReceive, withReq, withDone, doMark, receive, doStart, isNormal, step}
+use Rattle.reset.specs.Network.{run}
 use Rattle.reset.proofs.Cases.{clash}
 
 -- ---- the tests that refuse
@@ -89,6 +90,24 @@ refused-leaves c s =
       done = λ i j q si ij e b k h. clash (cc);
       started = λ i si m l b k h. clash (cc);
     })
+
+-- ---- every step keeps number 9's bounds
+pub step-bounded : {K : Clock} (c : Config) (s : State K) → inBounds c s ≡ true → (p : Step) → inBounds c (step c s p .after) ≡ true
+step-bounded c s h =
+    of-step c s (λ p o. inBounds c (o .after) ≡ true)
+    (record {
+      refusal = λ p k. h;
+      own = λ i g si l b. b;
+      sent = λ i j g si ij m l b. b;
+      received = λ i j w g q si ij e b. b;
+      req = λ i j q si ij e b. b;
+      done = λ i j q si ij e b. b;
+      started = λ i si m l b. b;
+    })
+
+pub run-bounded : {K : Clock} (c : Config) (s : State K) → inBounds c s ≡ true → (ps : List Step) → inBounds c (run c s ps) ≡ true
+run-bounded c s h [] = h
+run-bounded c s h (p ∷ ps) = run-bounded c (step c s p .after) (step-bounded c s h p) ps
 
 -- ---- an accepted entry's record says which step it was, and in which phase its station stood
 entry-same : (e e′ : Entry) → entry e ≡ entry e′ → e ≡ e′

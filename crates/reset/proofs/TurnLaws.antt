@@ -1,21 +1,31 @@
 -- After `turn` no reset rule applies, from any state: three at most ever apply in a row. Assumes nothing.
-use Prim.Native.Nat.{ℕ, zero, suc}
+use Prim.Native.Nat.{ℕ, zero, suc, _<_}
 use mathlib.Core.Path.{_≡_, refl, sym, ap, _∙_}
 use mathlib.Core.Logic.{_≢_}
 use mathlib.Core.Bool.{Bool, true, false, not, _&&_, _||_, and-false}
+use native.Mathlib.Omega.{arith}
+use native.Mathlib.Decide.{ℕ-discrete}
 use Rattle.codec.specs.Every.{every, some}
 use Rattle.reset.specs.Config.{Config, neighbours}
 use Rattle.reset.specs.Clock.{Clock}
 use Rattle.reset.specs.State.{Mode, normal, mute, standBy, Station, State, stationAt, reqSeen, doneSeen}
 use Rattle.reset.specs.Steps.{everyNeighbour, someNeighbour, begun, renewed, woken, beginReset, renew, wake, Rule, ruleA, ruleB, ruleC, noRule, ruleIn, ruleOf, applied, apply, turnOnce, turn}
 use Rattle.reset.proofs.Views.{none-at, station-set, station-set-other, station-put-all}
-use Rattle.reset.proofs.Cases.{by-test, clash}
+use Rattle.reset.proofs.Cases.{by-test, by-dec, clash}
 
 -- ---- marks that nobody has
 pub some-none : (n : ℕ) (r p : ℕ → Bool) → ((j : ℕ) → p j ≡ false) → some n (λ j. r j && p j) ≡ false
 unfolding some
 some-none zero r p h = refl
 some-none (suc n) r p h = rw (some-none n r p h, h n, and-false)
+
+-- where no i has p, each one has it not
+pub some-fails : (n : ℕ) (p : ℕ → Bool) → some n p ≡ false → (i : ℕ) → i < n → p i ≡ false
+unfolding some
+some-fails zero p h i l = absurd (omega arith)
+some-fails (suc n) p h i l =
+    by-test (some n p) (λ e. clash (rw e at h))
+    (λ e. by-dec (ℕ-discrete i n) (λ q. rw q (rw e at h)) (λ q. some-fails n p e i (omega arith)))
 
 -- where some j has r and q, not every j that has r has p
 every-none : (n : ℕ) (r p q : ℕ → Bool) → ((j : ℕ) → p j ≡ false) → some n (λ j. r j && q j) ≡ true → every n (λ j. not (r j) || p j) ≡ false

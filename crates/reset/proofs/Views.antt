@@ -6,7 +6,7 @@ use mathlib.Core.List.{List, [], _∷_, _++_}
 use mathlib.Core.Bool.{Bool, true, false}
 use native.Mathlib.Omega.{arith}
 use native.Mathlib.Decide.{ℕ-discrete}
-use lib.ListN.{getD, replicate}
+use lib.ListN.{length, getD, replicate}
 use Rattle.codec.proofs.PutLaws.{put-same, put-other}
 use Rattle.clock.specs.Timestamp.{zeros}
 use Rattle.reset.specs.Config.{Config, neighbours}
@@ -27,6 +27,10 @@ zeros-at j = all-same {A = ℕ} 8 0 j
 pub none-at : (j : ℕ) → getD noneSeen j false ≡ false
 unfolding noneSeen
 none-at j = all-same {A = Bool} 8 false j
+
+pub none-long : {A : Type 0} (l : List A) → length l ≡ 0 → l ≡ []
+none-long [] h = refl
+none-long (x ∷ l) h = absurd (omega arith)
 
 -- ---- a station's record replaced
 module _ {K : Clock} (s : State K) (i : ℕ) (x : Station K) where

@@ -1,8 +1,8 @@
 -- Headers, and lent states that no list of steps from an initial network reaches, worked by the definitions: what each rule and each clause turns away,
--- and the refusals 8 and 9. Assumes nothing.
+-- the refusals 8 and 9, and rest while an item is under way. Assumes nothing.
 use Prim.Native.Nat.{ℕ}
 use mathlib.Core.Path.{_≡_, refl}
-use mathlib.Core.List.{List, [], _∷_}
+use mathlib.Core.List.{List, [], _∷_, _++_}
 use mathlib.Core.Bool.{Bool, true, false}
 use lib.ListN.{replicate}
 use Rattle.codec.specs.Every.{every, sum}
@@ -12,7 +12,7 @@ use Rattle.reset.specs.Config.{Config, allowancesFit, limitsFit, wellMad
 use Rattle.reset.specs.Clock.{vector, timestampFits}
 use Rattle.reset.specs.State.{Mode, normal, mute, standBy, Item, message, resetReq, resetDone, Station, State, blankStation, withTime, withPhase, withSent, withReqs, withDones, setStation, setLink}
 use Rattle.reset.specs.Steps.{Step, enter, send, recv, start}
-use Rattle.reset.specs.Network.{initial, run, quiescent}
+use Rattle.reset.specs.Network.{initial, run, stationsQuiescent, linksEmpty, quiescent}
 use Rattle.reset.specs.WellFormed.{sentFits, marksFit, stationFits, linkFits, shapeFits, wellFormed}
 use Rattle.reset.specs.Worked.{net, allow, limitTo, link, Line, entryLine, modeLine, noLine, linesFrom, pair, listing, lone, strict, middle, skewed}
 
@@ -115,7 +115,7 @@ ahead p = setStation (initial vector pair) 1 (withPhase p (withDones (two false 
 
 -- unfolds all that the test and a step compute with
 unfoldable pub formedIn : Config → State vector → Bool
-unfolding kept linesFrom timestampFits sentFits marksFit stationFits linkFits shapeFits wellFormed quiescent
+unfolding kept linesFrom timestampFits sentFits marksFit stationFits linkFits shapeFits wellFormed stationsQuiescent linksEmpty quiescent
 formedIn c s = wellFormed c s
 
 unfoldable pub formed : State vector → Bool
@@ -152,7 +152,7 @@ pub record States : Type 0 where
       × (formedIn (skewed 8) (on 1 0 (notes 4 0 0) (initial vector (skewed 8))) ≡ false) × (formedIn (skewed 8) (on 0 1 (notes 6 0 0) (initial vector (skewed 8))) ≡ false)
   pub wrong-message : (formed (on 0 1 (notes 1 8 0) (initial vector pair)) ≡ false) × (formed (on 0 1 (message (0 ∷ two 0 0 1) 1 ∷ []) (initial vector pair)) ≡ false)
       × (formed (on 0 1 (message (0 ∷ 0 ∷ 1 ∷ replicate 5 0) 1 ∷ []) (initial vector pair)) ≡ false) × (formed (on 0 1 (message zeros 4294967296 ∷ []) (initial vector pair)) ≡ false)
-  -- quiescent: all normal and in one phase
+  -- quiescent: all normal and in one phase, with nothing under way
   pub rests : (quiescent pair (initial vector pair) ≡ true) × (quiescent pair (run pair (initial vector pair) listing) ≡ true)
       × (quiescent pair (with (held 0 0 normal 1 0 0 false true)) ≡ false) × (quiescent pair (with (held 0 0 mute 0 0 0 false true)) ≡ false)
       × (formed (ahead 1) ≡ true) × (quiescent pair (ahead 1) ≡ false) × (quiescent pair (ahead 0) ≡ true)
@@ -213,4 +213,52 @@ lent-steps =
       own-count = (refl, refl);
       others-greater = (refl, refl);
       three-in-a-row = (refl, refl);
+    }
+
+-- ---- rest while an item is under way
+-- s is well formed, its stations are normal and in one phase; and it is quiescent, or not
+abbrev pub Still : Config → State vector → Bool → Type 0
+Still c s b = (formedIn c s ≡ true) × (stationsQuiescent c s ≡ true) × (quiescent c s ≡ b)
+
+-- after a list of steps from the initial network
+abbrev pub StillAfter : Config → List Step → Bool → Type 0
+StillAfter c ps b = Still c (run c (initial vector c) ps) b
+
+-- a whole reset of the listing's network, which station 0 starts
+abbrev pub wholeReset : List Step
+wholeReset = start 0 ∷ recv 1 0 ∷ recv 0 1 ∷ recv 0 1 ∷ recv 1 0 ∷ []
+
+pub record UnderWay : Type 0 where
+  -- a message is under way, on either link; then it is received
+  pub sent : StillAfter pair (send 0 1 1 ∷ []) false × StillAfter pair (send 1 0 1 ∷ []) false
+  pub received : StillAfter pair (send 0 1 1 ∷ recv 1 0 ∷ []) true × StillAfter pair (send 1 0 1 ∷ recv 0 1 ∷ []) true
+  -- one of two is received, on one link and on two
+  pub one-of-two : StillAfter pair (send 0 1 1 ∷ send 0 1 2 ∷ recv 1 0 ∷ []) false × StillAfter pair (send 0 1 1 ∷ send 1 0 2 ∷ recv 1 0 ∷ []) false
+  -- an own entry puts nothing under way
+  pub entered : StillAfter pair (enter 0 1 ∷ []) true
+  -- a reset: no while it lasts, and yes in the next phase; then no again, while a message of that phase is under way
+  pub resetting : (quiescent pair (run pair (initial vector pair) (start 0 ∷ [])) ≡ false) × StillAfter pair wholeReset true × StillAfter pair (wholeReset ++ (send 1 0 1 ∷ [])) false
+  -- a control item alone, which steps from an initial network put on no link of normal stations in one phase
+  pub control : Still pair (on 0 1 (resetReq ∷ []) (initial vector pair)) false × Still pair (on 1 0 (resetDone ∷ []) (initial vector pair)) false
+  -- a done is received there
+  pub done-received : Still pair (run pair (on 1 0 (resetDone ∷ []) (initial vector pair)) (recv 0 1 ∷ [])) true
+  -- the first and the last link of eight stations
+  pub each-end : Still winding (initial vector winding) true × Still winding (on 0 7 (resetDone ∷ []) (initial vector winding)) false
+      × Still winding (on 7 3 (notes 1 0 0) (initial vector winding)) false
+  -- a lone station has no link: it is always at rest
+  pub lone-rests : StillAfter lone [] true × StillAfter lone (enter 0 1 ∷ start 0 ∷ []) true
+
+pub under-way : UnderWay
+unfolding formed linesFrom
+under-way =
+    record {
+      sent = ((refl, refl, refl), (refl, refl, refl));
+      received = ((refl, refl, refl), (refl, refl, refl));
+      one-of-two = ((refl, refl, refl), (refl, refl, refl));
+      entered = (refl, refl, refl);
+      resetting = (refl, (refl, refl, refl), (refl, refl, refl));
+      control = ((refl, refl, refl), (refl, refl, refl));
+      done-received = (refl, refl, refl);
+      each-end = ((refl, refl, refl), (refl, refl, refl), (refl, refl, refl));
+      lone-rests = ((refl, refl, refl), (refl, refl, refl));
     }

@@ -11,7 +11,8 @@ use reference::generate::{
     StateDamage,
 };
 use reference::header::Header;
-use reference::network::{Answer, Item, Mode, State, Step, AREA};
+use reference::in_place;
+use reference::network::{Answer, Item, Message, Mode, State, Step, AREA};
 use reference::random::Rng;
 
 /// The bytes of a lent record before a call.
@@ -158,6 +159,89 @@ fn any_well_formed_state() {
             bytes = compare_step(&bytes, step);
         }
     });
+}
+
+/// Rest by the library, the reference and the version in place.
+fn compare_rest(state: &State) -> u64 {
+    let bytes = area::image(state);
+    let answer = raw::rest(&bytes);
+    assert_eq!(answer, rested(state.rest()));
+    assert_eq!(answer, rested(area::rest(&bytes)));
+    assert_eq!(answer, rested(in_place::rest(&bytes)));
+    answer
+}
+
+/// Normal stations of one phase: rest is yes while no link holds an item, and
+/// no as soon as any one of them holds one of any kind.
+#[test]
+fn rest_by_links() {
+    cases("rest_by_links", 200, |rng| {
+        let header = any_network(rng);
+        let mut state = State::initial(&header).expect("a network");
+        let phase = rng.below(1_000_000) as u32;
+        for station in &mut state.stations {
+            station.phase = phase;
+        }
+        assert_eq!(compare_rest(&state), 100);
+        let message = Item::Message(Message {
+            register: rng.next_u64() as u32,
+            counts: [0; 8],
+        });
+        for (i, j) in (0..64).map(|k| (k / 8, k % 8)) {
+            for item in [message, Item::ResetReq, Item::ResetDone] {
+                let linked = header.limit(i, j) > 0;
+                state.links[i][j].push_back(item);
+                // Without a link there is no place for it.
+                assert_eq!(compare_rest(&state), if linked { 101 } else { 2 });
+                state.links[i][j].clear();
+            }
+            if header.limit(i, j) > 0 {
+                state.links[i][j].extend([Item::ResetDone, message, Item::ResetReq]);
+                assert_eq!(compare_rest(&state), 101);
+                state.links[i][j].clear();
+            }
+        }
+        // One station alone that is not normal, or in another phase.
+        let i = rng.index(state.n());
+        for mode in Mode::ALL {
+            state.stations[i].mode = mode;
+            let normal = mode == Mode::Normal;
+            assert_eq!(compare_rest(&state), if normal { 100 } else { 101 });
+        }
+        state.stations[i].mode = Mode::Normal;
+        state.stations[i].phase = (phase + 1) % 1_000_000;
+        let alone = state.n() == 1;
+        assert_eq!(compare_rest(&state), if alone { 100 } else { 101 });
+    });
+}
+
+/// The library alone, by hand: a message under way, then a reset.
+#[test]
+fn rest_while_an_item_is_under_way() {
+    let mut header = Header::new(2, 7);
+    header.allowances = [3, 3, 0, 0, 0, 0, 0, 0];
+    (header.limits[0][1], header.limits[1][0]) = (2, 2);
+    let mut bytes = vec![0; AREA];
+    assert_eq!(raw::setup(&header.to_block_untested(), &mut bytes), 0);
+    let mut take = |step| {
+        assert!(library_step(&mut bytes, &mut EVENT.clone(), step) >= 100);
+        raw::rest(&bytes)
+    };
+    let recv = |station, peer| Step::Recv { station, peer };
+    let (station, peer, register) = (0, 1, 501);
+    assert_eq!(take(Step::Enter { station, register }), 100);
+    let send = Step::Send {
+        station,
+        peer,
+        register,
+    };
+    assert_eq!(take(send), 101);
+    assert_eq!(take(recv(1, 0)), 100);
+    assert_eq!(take(Step::Start { station }), 101);
+    assert_eq!(take(recv(1, 0)), 101);
+    assert_eq!(take(recv(0, 1)), 101);
+    assert_eq!(take(recv(0, 1)), 101);
+    assert_eq!(take(recv(1, 0)), 100);
 }
 
 #[test]

@@ -318,16 +318,25 @@ impl<A: DerefMut<Target = [u8]>> Network<A> {
         in_mode("start", raw::start(&mut self.area, &mut event, station))
     }
 
-    /// Whether every station is normal and all phases are equal: what document
-    /// 01 calls rest. Links may hold messages.
+    /// Whether every station is normal, all phases are equal and no link holds
+    /// an item: what document 01 calls rest. Then every message that was sent
+    /// has been received, and a sheet can be closed.
     ///
     /// ```
     /// use melontime::{Header, Network, Refusal};
     ///
     /// let mut network = Network::setup(&Header::new(2, 7).link(0, 1, 2)?)?;
     /// assert!(network.is_quiescent());
+    /// network.send(0, 1, 501)?;
+    /// assert!(!network.is_quiescent()); // a message is under way
+    /// network.recv(1, 0)?;
+    /// assert!(network.is_quiescent());
     /// network.start(0)?;
-    /// assert!(!network.is_quiescent());
+    /// for (station, peer) in [(1, 0), (0, 1), (0, 1), (1, 0)] {
+    ///     assert!(!network.is_quiescent()); // a reset is under way
+    ///     network.recv(station, peer)?;
+    /// }
+    /// assert!(network.is_quiescent());
     /// # Ok::<(), Refusal>(())
     /// ```
     #[must_use]

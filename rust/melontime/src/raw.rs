@@ -186,7 +186,7 @@ pub fn start(area: &mut [u8], event: &mut [u8], station: u32) -> u64 {
     }
 }
 
-/// Whether every station is normal in one phase.
+/// Whether every station is normal in one phase and no link holds an item.
 #[must_use]
 pub fn rest(area: &[u8]) -> u64 {
     // SAFETY: see the head of this module.

@@ -202,7 +202,8 @@ pub fn step(area: &mut [u8], event: &mut [u8], step: Step) -> Outcome {
     Ok(answer)
 }
 
-/// Rest on a lent area: 2, or whether every station is normal in one phase.
+/// Rest on a lent area: 2, or whether every station is normal in one phase
+/// and no link holds an item.
 pub fn rest(area: &[u8]) -> Result<bool, Refusal> {
     let state = read(area)?;
     state.rest()

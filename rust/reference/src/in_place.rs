@@ -13,7 +13,7 @@ mod records;
 use self::formed::head_of;
 use self::head::{links_of, Head};
 use crate::area::{get_station, link_at, put_counts, put_station, station_at};
-use crate::area::{ITEM, LINK, PLACES, STATION};
+use crate::area::{ITEM, LINK, LINKS_AT, PLACES, STATION};
 use crate::check::BLOCK;
 use crate::header::Header;
 use crate::network::{Answer, Mode, Outcome, Station, Step, AREA, EXTRA_PLACES};
@@ -26,6 +26,9 @@ pub use self::records::verdict;
 const MESSAGE: u8 = 1;
 const RESET_REQ: u8 = 2;
 const RESET_DONE: u8 = 3;
+
+/// How many links an area has places for.
+const LINKS: usize = MAX_STATIONS * MAX_STATIONS;
 
 type Area = [u8; AREA];
 
@@ -64,7 +67,9 @@ pub fn rest(area: &[u8]) -> Result<bool, Refusal> {
     let area: &Area = area.try_into().map_err(|_| Refusal::IllFormedState)?;
     let head = head_of(area).ok_or(Refusal::IllFormedState)?;
     let phase = |i: usize| &area[station_at(i)..][40..44];
-    Ok((0..head.n()).all(|i| area[station_at(i) + 46] == 0 && phase(i) == phase(0)))
+    let still = (0..head.n()).all(|i| area[station_at(i) + 46] == 0 && phase(i) == phase(0));
+    // The first byte of a link is how many items it holds.
+    Ok(still && (0..LINKS).all(|k| area[LINKS_AT + LINK * k] == 0))
 }
 
 /// A step on a lent area, as [`crate::area::step`].

@@ -318,19 +318,18 @@ impl State {
             })
     }
 
-    // ----- rest ('Archive blocks', its last sentence) -----
+    // ----- rest (the last sentence of 'Archive blocks'; CR 5) -----
 
-    /// Rest: every station is normal and all phases are equal. 2 for a state
-    /// that is not well formed.
+    /// Rest: every station is normal, all phases are equal, and no link holds
+    /// an item. 2 for a state that is not well formed.
     pub fn rest(&self) -> Result<bool, Refusal> {
         if !self.is_well_formed() {
             return Err(Refusal::IllFormedState);
         }
         let first = self.stations[0].phase;
-        Ok(self
-            .stations
-            .iter()
-            .all(|s| s.mode == Mode::Normal && s.phase == first))
+        let all_normal = self.stations.iter().all(|s| s.mode == Mode::Normal);
+        let one_phase = self.stations.iter().all(|s| s.phase == first);
+        Ok(all_normal && one_phase && self.links_empty())
     }
 
     // ----- the steps ('The steps') -----

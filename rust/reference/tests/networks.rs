@@ -543,9 +543,119 @@ fn rest_answers() {
     for i in 0..3 {
         state.station_mut(i).phase = 1;
     }
-    // Links do not matter.
-    state.link_mut(0, 1).push_back(Item::ResetReq);
     assert_eq!(state.rest(), Ok(true));
+    // A link that is not empty matters when all else is well, and only then.
+    state.link_mut(0, 1).push_back(Item::ResetReq);
+    assert_eq!(state.rest(), Ok(false));
+    state.station_mut(2).mode = Mode::Mute;
+    assert_eq!(state.rest(), Ok(false));
+    state.link_mut(0, 1).clear();
+    assert_eq!(state.rest(), Ok(false));
+}
+
+/// CR 5: a planner may not close a sheet while a message is under way.
+#[test]
+fn rest_while_messages_are_under_way() {
+    let mut state = path();
+    for (step, yes) in [
+        (enter(0, 1), true),
+        (send(0, 1, 2), false),
+        (send(2, 1, 3), false),
+        (recv(1, 0), false),
+        (recv(1, 2), true),
+        (send(1, 0, 4), false),
+        (send(1, 0, 5), false),
+        (recv(0, 1), false),
+        (recv(0, 1), true),
+    ] {
+        assert_eq!(try_step(&mut state, step), 0);
+        assert_eq!(state.rest(), Ok(yes), "after {step:?}");
+    }
+    // A refused step changes nothing.
+    assert_eq!(try_step(&mut state, recv(0, 1)), 7);
+    assert_eq!(state.rest(), Ok(true));
+}
+
+/// While a reset runs rest is no, and yes when its last done is taken; a
+/// message of the new phase makes it no again.
+#[test]
+fn rest_after_a_reset() {
+    let mut state = initial(2, &[(0, 1)], 2, 3);
+    assert_eq!(try_step(&mut state, start(0)), 0);
+    for step in [recv(1, 0), recv(0, 1), recv(0, 1), recv(1, 0)] {
+        assert_eq!(state.rest(), Ok(false), "before {step:?}");
+        assert_eq!(try_step(&mut state, step), 0);
+    }
+    assert_eq!(state.rest(), Ok(true));
+    assert_eq!(try_step(&mut state, send(1, 0, 0)), 0);
+    assert_eq!(state.rest(), Ok(false));
+    assert_eq!(try_step(&mut state, recv(0, 1)), 0);
+    assert_eq!(state.rest(), Ok(true));
+}
+
+/// A control item alone, on each link of normal stations of one phase: no, and
+/// yes when a done has been received.
+#[test]
+fn rest_while_a_control_item_is_under_way() {
+    for (i, j) in [(0, 1), (1, 0), (1, 2), (2, 1)] {
+        let mut state = path();
+        state.link_mut(i, j).push_back(Item::ResetReq);
+        assert_eq!(state.rest(), Ok(false), "{i} to {j}");
+        let mut state = path();
+        state.link_mut(i, j).push_back(Item::ResetDone);
+        assert_eq!(state.rest(), Ok(false), "{i} to {j}");
+        assert_eq!(state.step(recv(j, i)), mode(Mode::Normal, 0));
+        assert_eq!(state.rest(), Ok(true), "{i} to {j}");
+    }
+}
+
+/// A station without links is at rest in every phase.
+#[test]
+fn rest_of_a_lone_station() {
+    let mut state = initial(1, &[], 0, 1);
+    for phase in 0..3 {
+        assert_eq!(state.station(0).phase, phase);
+        assert_eq!(state.rest(), Ok(true));
+        assert_eq!(try_step(&mut state, enter(0, 1)), 0);
+        assert_eq!(state.rest(), Ok(true));
+        assert_eq!(try_step(&mut state, start(0)), 0);
+    }
+}
+
+/// In runs from initial networks rest is yes exactly when every station is
+/// normal in one phase and every message sent has been received: control items
+/// decide on lent areas alone.
+#[test]
+fn rest_in_runs() {
+    let seed = 23;
+    println!("seed {seed}");
+    let mut rng = Rng::new(seed);
+    let (mut yes, mut still) = (0, 0);
+    for _ in 0..400 {
+        let header = generate::any_network(&mut rng);
+        let mut state = State::initial(&header).unwrap();
+        let mut habits = Habits::any(&mut rng);
+        let (mut sent, mut received) = (0, 0);
+        for _ in 0..200 {
+            if rng.chance(1, 24) {
+                habits = Habits::any(&mut rng);
+            }
+            let step = generate::next_step(&mut rng, &state, &habits);
+            if let Ok(Answer::Entry(record)) = state.step(step) {
+                sent += u32::from(record.kind == Kind::Sent);
+                received += u32::from(record.kind == Kind::Received);
+            }
+            let settled = state
+                .stations
+                .iter()
+                .all(|s| s.mode == Mode::Normal && s.phase == state.stations[0].phase);
+            assert_eq!(state.rest(), Ok(settled && sent == received));
+            yes += u32::from(settled && sent == received);
+            still += u32::from(settled && sent != received);
+        }
+    }
+    println!("{yes} times at rest, {still} times a message alone was under way");
+    assert!(yes > 1000 && still > 1000);
 }
 
 #[test]

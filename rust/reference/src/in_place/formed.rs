@@ -2,7 +2,7 @@
 
 use super::head::{links_of, Head, ONES};
 use super::lanes::{counts_at, exceed, greatest, no_count, zeros};
-use super::{MESSAGE, RESET_DONE, RESET_REQ};
+use super::{LINKS, MESSAGE, RESET_DONE, RESET_REQ};
 use crate::area::{station_at, ITEM, LINK, LINKS_AT, STATION, STATIONS_AT};
 use crate::check::BLOCK;
 use crate::network::{AREA, EXTRA_PLACES};
@@ -62,7 +62,7 @@ fn items_fit(items: &[[u8; ITEM]], most: &Counts) -> bool {
 /// of the next that has some is one run of zeros, but for that link's length.
 fn links_fit(area: &[u8; AREA], head: &Head, most: &Counts) -> bool {
     let mut zeros_from = LINKS_AT;
-    for k in 0..MAX_STATIONS * MAX_STATIONS {
+    for k in 0..LINKS {
         let at = LINKS_AT + LINK * k;
         let length = usize::from(area[at]);
         if length == 0 {
