@@ -319,8 +319,8 @@ impl<A: DerefMut<Target = [u8]>> Network<A> {
     }
 
     /// Whether every station is normal, all phases are equal and no link holds
-    /// an item: what document 01 calls rest. Then every message that was sent
-    /// has been received, and a sheet can be closed.
+    /// an item: what document 01 calls rest. Then no message is still to be
+    /// received, and a sheet can be closed.
     ///
     /// ```
     /// use melontime::{Header, Network, Refusal};
