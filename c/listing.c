@@ -79,10 +79,14 @@ static void run(unsigned number, struct step s) {
     uint64_t answer = take(s, event);
     if (MELONTIME_IS_REFUSED(answer)) {
         printf("%u no %" PRIu64 "\n", number, answer);
-    } else if (answer == MELONTIME_ENTRY) {
+    } else if (MELONTIME_IS_ENTRY(answer)) {
         printf("%u entry %" PRIu32 " %u", number, long_at(event + 4), event[1]);
         for (int k = 0; k < N; k++)
             printf(" %u", short_at(event + 16 + 2 * k));
+        if (s.action == RECV)
+            printf(" %" PRIu64, MELONTIME_NEWS(answer));
+        else
+            must(answer == MELONTIME_ENTRY, "only a receipt tells news");
         printf("\n");
         memcpy(records + MELONTIME_RECORD * count++, event, MELONTIME_RECORD);
     } else {
@@ -179,6 +183,24 @@ static void try_rest(void) {
     must(melontime_rest(area, sizeof area) == MELONTIME_REST_YES, "the message is received");
 }
 
+/* The number of counts that a message raised: one, and none. */
+static void try_news(void) {
+    uint8_t event[MELONTIME_RECORD];
+    uint8_t *station_1 = area + 512 + 47;
+    uint64_t answer;
+    setup();
+    accepted((struct step){SEND, 0, 1, 1});
+    accepted((struct step){SEND, 0, 1, 2});
+    answer = take((struct step){RECV, 1, 0, 0}, event);
+    must(MELONTIME_IS_ENTRY(answer) && MELONTIME_NEWS(answer) == 1, "the first message is news");
+    /* By hand, as a network of two has no other way for it to hear of the second send. */
+    station_1[0] = 2;
+    answer = take((struct step){RECV, 1, 0, 0}, event);
+    must(MELONTIME_IS_ENTRY(answer) && MELONTIME_NEWS(answer) == 0, "the second message is no news");
+    must(!MELONTIME_IS_ENTRY(take((struct step){START, 1, 0, 0}, event)), "a start is no entry");
+    must(!MELONTIME_IS_ENTRY(take((struct step){START, 1, 0, 0}, event)), "a refusal is no entry");
+}
+
 static void try_refusals(void) {
     uint8_t block[MELONTIME_BLOCK], event[MELONTIME_RECORD];
     uint8_t *station_0 = area + 512;
@@ -246,6 +268,7 @@ int main(void) {
     write_archive();
     read_archive();
     try_rest();
+    try_news();
     try_refusals();
     return 0;
 }

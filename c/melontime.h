@@ -53,7 +53,7 @@ enum {
 enum {
     MELONTIME_DONE = 0, /* of calls that only write */
 
-    MELONTIME_ENTRY = 100, /* of enter, send and recv: an entry, its record in event */
+    MELONTIME_ENTRY = 100, /* of enter, send and recv: an entry, its record in event; recv adds its news */
 
     MELONTIME_REST_YES = 100,
     MELONTIME_REST_NO = 101,
@@ -71,6 +71,14 @@ enum { MELONTIME_NORMAL = 0, MELONTIME_MUTE = 1, MELONTIME_STAND_BY = 2 };
 
 /* Whether an answer is a refusal: 1 to 99. The argument is evaluated once. */
 #define MELONTIME_IS_REFUSED(answer) ((uint64_t)(answer)-1 < 99)
+
+/* Whether an answer of enter, send or recv is an entry: recv has 100 to 107.
+   The argument is evaluated once. */
+#define MELONTIME_IS_ENTRY(answer) ((uint64_t)(answer)-MELONTIME_ENTRY < MELONTIME_MAX_STATIONS)
+
+/* How many of the other stations' counts grew, 0 to 7, by a recv that took a
+   message. Where it is 0 the message told the station nothing new. */
+#define MELONTIME_NEWS(answer) ((answer)-MELONTIME_ENTRY)
 
 /* Where the station is after start, and after a recv that took a control item. */
 #define MELONTIME_PHASE(answer) (((answer)-MELONTIME_TOLD) / 4)
@@ -98,7 +106,7 @@ uint64_t melontime_send(uint8_t *area, size_t area_length, uint8_t *event, size_
                         uint32_t station, uint32_t peer, uint32_t register_number);
 
 /* A station takes the first item of the link from a neighbour: MELONTIME_ENTRY
-   for a message, a phase and mode for a control item. */
+   and the news for a message, a phase and mode for a control item. */
 uint64_t melontime_recv(uint8_t *area, size_t area_length, uint8_t *event, size_t event_length,
                         uint32_t station, uint32_t peer);
 

@@ -106,6 +106,9 @@ def answers():
     def entry(number, phase, station, counts, n):
         return " ".join(["%d entry" % number] + [str(x) for x in [phase, station] + counts[:n]])
 
+    def receipt(number, phase, station, counts, n, news):
+        return "%s %d" % (entry(number, phase, station, counts, n), news)
+
     def mode(number, phase, station, m):
         return "%d mode %d %d %s" % (number, phase, station, MODES.get(m, "stand-by"))
 
@@ -117,6 +120,13 @@ def answers():
     yield entry(9, 9, 9, [9] * 8, 2)
     yield entry(10, 10, 10, [10] * 8, 3)
     yield entry(1234567890, 99999, 7, [12345] * 8, 4)
+    for n in range(11):
+        yield receipt(n, 999999, n, mixed, n, n)
+    yield receipt(2**64 - 1, 2**32 - 1, 255, [65535] * 8, 255, 255)
+    yield receipt(4, 0, 1, [2, 1, 0, 0, 0, 0, 0, 0], 2, 1)
+    yield receipt(10, 1, 0, [1, 1, 0, 0, 0, 0, 0, 0], 2, 1)
+    yield receipt(99, 9, 9, [9] * 8, 8, 99)
+    yield receipt(100, 10, 10, [10] * 8, 8, 100)
     for m in range(5):
         yield mode(100 + m, 999999, m, m)
     yield mode(2**64 - 1, 2**32 - 1, 255, 255)
@@ -137,15 +147,15 @@ def main():
     out = [meaning(l) for l in every + [last]]
     with open(os.path.join(here, "stdout"), "w") as f:
         f.write("".join(l + "\n" for l in out))
-        old = "." * 95
+        old = "." * 99
         for text in answers():
             t = text + "\n"
             at = 5
             new = old[:at] + t + old[at + len(t):]
-            assert len(new) == 95
+            assert len(new) == 99
             f.write("%s %d\n" % (new, at + len(t)))
             # a bad line goes over the refused setup before it
-            old = new if text.startswith("no ") else "." * 95
+            old = new if text.startswith("no ") else "." * 99
 
 
 main()

@@ -25,7 +25,7 @@ accepted (x ∷ l) = withEntry (x .step) (x .answer) (accepted l)
 
 -- no entry: read past the end
 abbrev pub noEntry : Accepted
-noEntry = record { step = start 0; entry = record { kind = 0; station = 0; peer = 0; phase = 0; register = 0; counts = [] } }
+noEntry = record { step = start 0; entry = record { kind = 0; station = 0; peer = 0; phase = 0; register = 0; counts = []; news = 0 } }
 
 -- entry x: its step and record; the station that took the step; the record's phase and timestamp
 abbrev pub entryAt : List Accepted → ℕ → Accepted

@@ -61,7 +61,7 @@ fn join(a: [u16; 8], b: [u16; 8]) {
     io::write_all(1, b"\n");
 }
 
-// The steps of station i: an entry of its own, and a receipt of b.
+// The steps of station i: an entry of its own, and a receipt of b with its news.
 fn step(a: [u16; 8], b: [u16; 8], i: usize)
     requires { ⌜ (i < 8) × (getD a i 0 < 65535) ⌝ }
 {
@@ -74,7 +74,10 @@ fn step(a: [u16; 8], b: [u16; 8], i: usize)
     io::write_all(1, b" by");
     show(b);
     io::write_all(1, b":");
-    show(clock::raise(a, b, i));
+    let raised = clock::raise(a, b, i);
+    show(raised);
+    io::write_all(1, b", news ");
+    io::print_decimal(1, clock::news(a, raised, i) as u64);
     io::write_all(1, b"\n");
 }
 
@@ -85,6 +88,19 @@ fn fives(i: usize, x: u16) -> [u16; 8]
 {
     let mut c = [5u16; 8];
     c[i] = x;
+    c
+}
+
+// Sixes up to place i, and fours behind it.
+fn up_to(i: usize) -> [u16; 8]
+    requires { ⌜ i < 8 ⌝ }
+{
+    let mut c = [4u16; 8];
+    let mut k = 0;
+    while k <= i {
+        c[k] = 6;
+        k += 1;
+    }
     c
 }
 
@@ -107,6 +123,7 @@ fn counts(i: usize, j: usize)
     join(fives(i, 65535), fives(j, 7));
     step(fives(i, 65534), fives(j, 8), i);
     step(fives(i, 3), fives(i, 65535), i);
+    step(fives(i, 5), up_to(i), i);
 }
 
 fn places() {

@@ -43,8 +43,11 @@ fn body(a: Answer, event: Record, station: u32, n: u8) {
         Answer::Refused(k) => {
             check_vectors::put(b" no ", check_vectors::wide(k));
         }
-        Answer::Entered => {
+        Answer::Entered { news } => {
             entry(event, n);
+            if event.kind == step_parts::answer::RECEIVED {
+                check_vectors::put(b" ", check_vectors::wide(news));
+            }
         }
         Answer::InMode { mode, phase } => {
             check_vectors::put(b" mode ", phase as u64);
@@ -58,7 +61,7 @@ fn number(s: &[u8]) {
     io::print_decimal(1, check_vectors::field(s, 5));
 }
 
-// A step's answer: an entry with its phase, station and n counts, a mode with its phase and station, or a refusal.
+// A step's answer: an entry with its phase, station and n counts, and a receipt's news; a mode with its phase and station; or a refusal.
 pub fn answer(s: &[u8], station: u32, r: Stepped) {
     let a = r.answer;
     let event = r.event;
@@ -85,7 +88,7 @@ pub fn rest(s: &[u8], r: RestAnswer) {
 fn refusal_of(a: Answer) -> u8 {
     match a {
         Answer::Refused(k) => k,
-        Answer::Entered => 0,
+        Answer::Entered { news: _ } => 0,
         Answer::InMode { mode: _, phase: _ } => 0,
     }
 }

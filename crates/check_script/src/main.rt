@@ -162,25 +162,40 @@ fn present(out: &[u8], end: usize) {
 }
 
 fn entry(number: u64, phase: u32, station: u8, counts: [u16; 8], n: u8) {
-    let mut out = [b'.'; 95];
+    let mut out = [b'.'; 99];
     let end = turnover_output::answer::entry(&mut out, 5, number, phase, station, counts, n);
     present(&out, end);
 }
 
+fn receipt(number: u64, phase: u32, station: u8, counts: [u16; 8], n: u8, news: u8) {
+    let mut out = [b'.'; 99];
+    let end = turnover_output::answer::receipt(
+        &mut out,
+        5,
+        number,
+        phase,
+        station,
+        counts,
+        n,
+        news,
+    );
+    present(&out, end);
+}
+
 fn mode(number: u64, phase: u32, station: u8, mode: u8) {
-    let mut out = [b'.'; 95];
+    let mut out = [b'.'; 99];
     let end = turnover_output::answer::mode(&mut out, 5, number, phase, station, mode);
     present(&out, end);
 }
 
 fn refused(number: u64, refusal: u8) {
-    let mut out = [b'.'; 95];
+    let mut out = [b'.'; 99];
     let end = turnover_output::answer::refused(&mut out, 5, number, refusal);
     present(&out, end);
 }
 
 fn others(refusal: u8) {
-    let mut out = [b'.'; 95];
+    let mut out = [b'.'; 99];
     let end = turnover_output::answer::setup_refused(&mut out, 5, refusal);
     present(&out, end);
     let last = turnover_output::answer::bad(&mut out, 5);
@@ -200,6 +215,20 @@ fn entries() {
     entry(9, 9, 9, [9; 8], 2);
     entry(10, 10, 10, [10; 8], 3);
     entry(1234567890, 99999, 7, [12345; 8], 4);
+}
+
+fn receipts() {
+    let mixed = [0u16, 1, 9, 10, 99, 100, 65534, 65535];
+    let mut n = 0;
+    while n < 11 {
+        receipt(n as u64, 999999, n, mixed, n, n);
+        n += 1;
+    }
+    receipt(u64::MAX, u32::MAX, 255, [65535; 8], 255, 255);
+    receipt(4, 0, 1, [2, 1, 0, 0, 0, 0, 0, 0], 2, 1);
+    receipt(10, 1, 0, [1, 1, 0, 0, 0, 0, 0, 0], 2, 1);
+    receipt(99, 9, 9, [9; 8], 8, 99);
+    receipt(100, 10, 10, [10; 8], 8, 100);
 }
 
 fn modes() {
@@ -227,6 +256,7 @@ fn main() {
     let mut line = [0u8; 32];
     commands(&mut line);
     entries();
+    receipts();
     modes();
     refusals();
 }

@@ -1,3 +1,4 @@
 pub mod MergeLaws
+pub mod NewsLaws
 pub mod CompareLaws
 pub mod OrderLaws

@@ -1,3 +1,4 @@
 pub mod Timestamp
 pub mod Order
 pub mod Range
+pub mod Worked

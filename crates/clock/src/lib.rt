@@ -2,7 +2,7 @@
 ghost use mathlib.Core.Path.{_≡_};
 ghost use Prim.Native.Nat.{max, _<_};
 ghost use lib.ListN.{getD};
-ghost use Rattle.clock.specs.Timestamp.{tick, merged, raised};
+ghost use Rattle.clock.specs.Timestamp.{tick, merged, raised, news as News};
 ghost use Rattle.clock.specs.Order.{byFlags, verdictOf};
 ghost use Rattle.clock.specs.Range.{ceilingOf, countsFit};
 
@@ -89,6 +89,24 @@ pub fn raise(a: [u16; 8], b: [u16; 8], i: usize) -> [u16; 8]
     let mut r = merge(a, b);
     r[i] = a[i] + 1;
     r
+}
+
+// How many of the other stations' counts grew at station i, from a to b.
+pub fn news(a: [u16; 8], b: [u16; 8], i: usize) -> u8
+    ensures { λ r. ⌜ r ≡ News i a b ⌝ }
+{
+    let mut grown: u8 = 0;
+    let mut k = 0;
+    while k < 8 {
+        let next = k + 1;
+        if k != i {
+            if a[k] < b[k] {
+                grown += 1;
+            }
+        }
+        k = next;
+    }
+    grown
 }
 
 // t for a station below n, else 0.

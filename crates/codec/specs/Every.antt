@@ -1,7 +1,7 @@
--- Tests and sums over every index below a bound, and tests of zero bytes. Assumes nothing.
+-- Tests, counts and sums over every index below a bound, and tests of zero bytes. Assumes nothing.
 use Prim.Native.Nat.{ℕ, zero, suc, _+_}
 use mathlib.Core.List.{List, [], _∷_}
-use mathlib.Core.Bool.{Bool, true, false, _&&_, _||_}
+use mathlib.Core.Bool.{Bool, true, false, cond, _&&_, _||_}
 use lib.Dec.{eqb}
 use lib.ListN.{replicate}
 
@@ -14,6 +14,11 @@ every (suc n) p = every n p && p n
 unfoldable pub some : ℕ → (ℕ → Bool) → Bool
 some zero p = false
 some (suc n) p = some n p || p n
+
+-- how many numbers below n pass a test
+unfoldable pub countBelow : ℕ → (ℕ → Bool) → ℕ
+countBelow zero p = 0
+countBelow (suc n) p = cond (p n) (suc (countBelow n p)) (countBelow n p)
 
 -- f 0 + f 1 + .. + f (n - 1)
 unfoldable pub sum : ℕ → (ℕ → ℕ) → ℕ

@@ -1,4 +1,4 @@
--- The numbers below a bound that pass a test: how many, and their list in rising order. Assumes nothing.
+-- The numbers below a bound that pass a test: their list in rising order, as long as there are many. Assumes nothing.
 use Prim.Native.Nat.{ℕ, zero, suc, _+_, _≤_, _<_}
 use mathlib.Core.Path.{_≡_, refl, _∙_, sym, ap}
 use mathlib.Core.Logic.{_↔_, _⊎_, ⊎-elim}
@@ -10,7 +10,8 @@ use native.Mathlib.Nat.{eq-or-lt-of-le}
 use native.Mathlib.Decide.{decLt}
 use lib.ListN.{length, getD, drop, set, length-append, length-set, List·getD-append}
 use lib.Seq.{drop-cons, getD-at, set-at}
-use Rattle.concurrent.specs.Unordered.{countBelow}
+use Rattle.codec.specs.Every.{countBelow}
+use Rattle.codec.proofs.CountLaws.{grow, count-none, count-passed, count-failed}
 
 -- the numbers below n that pass, in rising order
 unfoldable pub passing : ℕ → (ℕ → Bool) → List ℕ
@@ -40,14 +41,6 @@ rising-more l n h = (λ (i : ℕ) (b : i < length (l ++ (n ∷ []))). below i (r
 
 module _ (p : ℕ → Bool) where
   -- ---- one number more
-  pub count-passed : (n : ℕ) → p n ≡ true → countBelow (n + 1) p ≡ countBelow n p + 1
-  unfolding countBelow
-  count-passed n e = rw (add-one, e) (omega arith)
-
-  pub count-failed : (n : ℕ) → p n ≡ false → countBelow (n + 1) p ≡ countBelow n p
-  unfolding countBelow
-  count-failed n e = rw (add-one, e)
-
   passing-passed : (n : ℕ) → p n ≡ true → passing (n + 1) p ≡ passing n p ++ (n ∷ [])
   unfolding passing
   passing-passed n e = rw (add-one, e)
@@ -56,54 +49,20 @@ module _ (p : ℕ → Bool) where
   unfolding passing
   passing-failed n e = rw (add-one, e)
 
-  -- induction, by cases of the test
-  grow : (P : ℕ → Type 0) → P 0 → ((n : ℕ) → p n ≡ true → P n → P (n + 1)) → ((n : ℕ) → p n ≡ false → P n → P (n + 1)) → (n : ℕ) → P n
-  grow P z y f zero = z
-  grow P z y f (suc n) = go (p n) refl (grow P z y f n)
-    where
-      go : (t : Bool) → p n ≡ t → P n → P (suc n)
-      go true e h = rw add-one at (y n e h)
-      go false e h = rw add-one at (f n e h)
-
-  -- ---- how many
-  pub count-none : countBelow 0 p ≡ 0
-  unfolding countBelow
-  count-none = refl
-
-  pub count-most : (n : ℕ) → countBelow n p ≤ n
-  count-most =
-      grow (λ (n : ℕ). countBelow n p ≤ n) (omega (arith, count-none))
-      (λ (n : ℕ) (e : p n ≡ true) (h : countBelow n p ≤ n). omega (arith, count-passed n e))
-      (λ (n : ℕ) (e : p n ≡ false) (h : countBelow n p ≤ n). omega (arith, count-failed n e))
-
   passing-none : passing 0 p ≡ []
   unfolding passing
   passing-none = refl
 
   pub passing-length : (n : ℕ) → length (passing n p) ≡ countBelow n p
   passing-length =
-      grow (λ (n : ℕ). length (passing n p) ≡ countBelow n p) (rw (passing-none, count-none))
-      (λ (n : ℕ) (e : p n ≡ true) (h : length (passing n p) ≡ countBelow n p). rw (passing-passed n e, count-passed n e, length-append) (omega arith))
-      (λ (n : ℕ) (e : p n ≡ false) (h : length (passing n p) ≡ countBelow n p). rw (passing-failed n e, count-failed n e) h)
-
-  pub count-grows : (k n : ℕ) → k ≤ n → countBelow k p ≤ countBelow n p
-  count-grows k =
-      grow (λ (n : ℕ). k ≤ n → countBelow k p ≤ countBelow n p) (λ (l : k ≤ 0). let e : k ≡ 0 = omega arith in rw e (omega arith))
-      (λ (n : ℕ) (e : p n ≡ true) (h : k ≤ n → countBelow k p ≤ countBelow n p) (l : k ≤ n + 1). step n (omega (arith, count-passed n e)) h l)
-      (λ (n : ℕ) (e : p n ≡ false) (h : k ≤ n → countBelow k p ≤ countBelow n p) (l : k ≤ n + 1). step n (omega (arith, count-failed n e)) h l)
-    where
-      step : (n : ℕ) → countBelow n p ≤ countBelow (n + 1) p → (k ≤ n → countBelow k p ≤ countBelow n p) → k ≤ n + 1 → countBelow k p ≤ countBelow (n + 1) p
-      step n m h l =
-          ⊎-elim (λ (e : k ≡ n + 1). rw e (omega arith)) (λ (b : k < n + 1). omega (arith, h (omega arith))) (eq-or-lt-of-le {n = k} {m = n + 1} l)
-
-  -- a number that passes is one more
-  pub count-room : (k n m : ℕ) → p k ≡ true → k < n → countBelow n p ≤ m → countBelow k p < m
-  count-room k n m e l h = omega (arith, count-passed k e, count-grows (k + 1) n (omega arith))
+      grow p (λ (n : ℕ). length (passing n p) ≡ countBelow n p) (rw (passing-none, count-none p))
+      (λ (n : ℕ) (e : p n ≡ true) (h : length (passing n p) ≡ countBelow n p). rw (passing-passed n e, count-passed p n e, length-append) (omega arith))
+      (λ (n : ℕ) (e : p n ≡ false) (h : length (passing n p) ≡ countBelow n p). rw (passing-failed n e, count-failed p n e) h)
 
   -- ---- which
   pub passing-members : (n k : ℕ) → List·Memᴰ k (passing n p) ↔ ((k < n) × (p k ≡ true))
   passing-members n k =
-      grow (λ (n : ℕ). List·Memᴰ k (passing n p) ↔ ((k < n) × (p k ≡ true))) (none, λ (h : (k < 0) × (p k ≡ true)). absurd (omega arith))
+      grow p (λ (n : ℕ). List·Memᴰ k (passing n p) ↔ ((k < n) × (p k ≡ true))) (none, λ (h : (k < 0) × (p k ≡ true)). absurd (omega arith))
       (λ (n : ℕ) (e : p n ≡ true) (h : List·Memᴰ k (passing n p) ↔ ((k < n) × (p k ≡ true))). rw (passing-passed n e) (passed n e h))
       (λ (n : ℕ) (e : p n ≡ false) (h : List·Memᴰ k (passing n p) ↔ ((k < n) × (p k ≡ true))). rw (passing-failed n e) (failed n e h)) n
     where
@@ -130,7 +89,7 @@ module _ (p : ℕ → Bool) where
   -- each below n, and each below the next
   passing-rises : (n : ℕ) → Rising (passing n p) n
   passing-rises =
-      grow (λ (n : ℕ). Rising (passing n p) n) (rw passing-none (λ (i : ℕ) (l : i < 0). absurd (omega arith), λ (i j : ℕ) (h : i < j) (l : j < 0). absurd (omega arith)))
+      grow p (λ (n : ℕ). Rising (passing n p) n) (rw passing-none (λ (i : ℕ) (l : i < 0). absurd (omega arith), λ (i j : ℕ) (h : i < j) (l : j < 0). absurd (omega arith)))
       (λ (n : ℕ) (e : p n ≡ true) (h : Rising (passing n p) n). rw (passing-passed n e) (rising-more (passing n p) n h))
       (λ (n : ℕ) (e : p n ≡ false) (h : Rising (passing n p) n). rw (passing-failed n e) (λ (i : ℕ) (l : i < length (passing n p)). omega (arith, h .0 i l), h .1))
 
@@ -150,7 +109,7 @@ module _ (p : ℕ → Bool) where
     pub is : after ≡ passing k p ++ drop i before
 
   pub filled-none : (before : List ℕ) → Filled before 0 0 before
-  filled-none before = record { place = sym count-none; size = refl; is = rw passing-none }
+  filled-none before = record { place = sym (count-none p); size = refl; is = rw passing-none }
 
   -- number k passes, and is written
   pub filled-passed : {before after : List ℕ} {k i : ℕ} → p k ≡ true → i < length after → Filled before k i after → Filled before (k + 1) (i + 1) (set after i k)
@@ -158,7 +117,7 @@ module _ (p : ℕ → Bool) where
       let q : length (passing k p) ≡ i = passing-length k ∙ sym (w .place) in
       let b : i < length before = omega (arith, w .size) in
       record {
-        place = omega (arith, w .place, count-passed k e);
+        place = omega (arith, w .place, count-passed p k e);
         size = rw length-set (w .size);
         is = rw (w .is, passing-passed k e, add-one i, drop-cons before i 0 b, set-at (passing k p) (getD before i 0) (drop (suc i) before) k i q, append-assoc);
       }
@@ -166,4 +125,4 @@ module _ (p : ℕ → Bool) where
   -- number k fails, and nothing is written
   pub filled-failed : {before after : List ℕ} {k i : ℕ} → p k ≡ false → Filled before k i after → Filled before (k + 1) i after
   filled-failed {before} {after} {k} {i} e w =
-      record { place = omega (arith, w .place, count-failed k e); size = w .size; is = rw (passing-failed k e) (w .is) }
+      record { place = omega (arith, w .place, count-failed p k e); size = w .size; is = rw (passing-failed k e) (w .is) }

@@ -20,12 +20,14 @@ use Rattle.entries.specs.Entries.{countOf, recordOf}
 use Rattle.archive.specs.Archive.{blockOf, blocks, archiveTest, records, recordAt, findRecord, foundRecord}
 use Rattle.verdict.specs.Compare.{verdictOn, verdictOfBytes}
 use Rattle.verdict.specs.declared.Compared.the-variants.{Ordered, Refused}
-use Rattle.concurrent.specs.Unordered.{eventAt, isUnorderedVerdict, concurrent, isUnordered, countBelow, unorderedCount, unorderedAnswer, Lists}
+use Rattle.codec.specs.Every.{countBelow}
+use Rattle.codec.proofs.CountLaws.{count-room}
+use Rattle.concurrent.specs.Unordered.{eventAt, isUnorderedVerdict, concurrent, isUnordered, unorderedCount, unorderedAnswer, Lists}
 use Rattle.concurrent.specs.ByNumber.{orderOf}
 use Rattle.archive.specs.declared.Counted.the-variants.{Count}
 use Rattle.archive.specs.declared.Counted.the-variants as listed
 use Rattle.archive.proofs.Tested.{records-most, block-numbers, record-place, record-well-made}
-use Rattle.concurrent.proofs.Below.{passing, passing-length, passing-members, passing-once, count-room, Filled}
+use Rattle.concurrent.proofs.Below.{passing, passing-length, passing-members, passing-once, Filled}
 
 -- ---- two events
 unordered-verdict : (v : Verdict) → isUnorderedVerdict v ≡ true → v ≡ Unordered

@@ -1,11 +1,12 @@
 -- The records of an archive that are unordered (concurrent) with one of them (document 01, "Archive blocks"). Assumes nothing.
-use Prim.Native.Nat.{ℕ, zero, suc, _<_}
+use Prim.Native.Nat.{ℕ, _<_}
 use mathlib.Core.Path.{_≡_}
 use mathlib.Core.Logic.{_↔_}
 use mathlib.Core.List.{List, _++_, List·Memᴰ}
 use mathlib.Core.Bool.{Bool, true, false, _&&_, cond}
 use lib.Dec.{eqb, ltb}
 use lib.ListN.{length, getD, drop}
+use Rattle.codec.specs.Every.{countBelow}
 use Rattle.clock.specs.Order.{verdictOf}
 use Rattle.clock.specs.declared.Verdict.{Verdict}
 use Rattle.clock.specs.declared.Verdict.the-variants.{Before, After, Same, Unordered}
@@ -35,11 +36,6 @@ unfoldable pub isUnordered : List ℕ → ℕ → ℕ → Bool
 isUnordered a r k = ltb k (records a) && concurrent (eventAt a r) (eventAt a k)
 
 -- ---- how many
--- how many numbers below n pass a test
-unfoldable pub countBelow : ℕ → (ℕ → Bool) → ℕ
-countBelow zero p = 0
-countBelow (suc n) p = cond (p n) (suc (countBelow n p)) (countBelow n p)
-
 -- how many records are concurrent with record r
 unfoldable pub unorderedCount : List ℕ → ℕ → ℕ
 unorderedCount a r = countBelow (records a) (isUnordered a r)

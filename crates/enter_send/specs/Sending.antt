@@ -23,5 +23,5 @@ sendRefusal x t limit count i j =
 
 -- the entry of a send, and the area after it
 pub record Sends (x : Station vector) (i j g : ℕ) (a : List ℕ) (r : Stepped) (b : List ℕ) : Type 0 where
-  pub answer : r ≡ steppedOf (entry (entryOf 2 i j g (sending i j x)))
+  pub answer : r ≡ steppedOf (entry (entryOf 2 i j g (sending i j x) 0))
   pub area : (c : Config) (s : State vector) → a ≡ image c s → b ≡ image c (putOn (setStation s i (sending i j x)) i j (message (tick i (x .time)) g))

@@ -37,7 +37,14 @@ pub fn enter(area: &mut [u8], station: u32, register: u32) -> Stepped
     }
     let x = reset_rules::entered(s, i);
     parts::put_station(area, i, x);
-    answer::entry(answer::OWN, station as u8, answer::NO_PEER, register, x)
+    answer::entry(
+        answer::OWN,
+        station as u8,
+        answer::NO_PEER,
+        register,
+        x,
+        answer::NO_NEWS,
+    )
 }
 
 fn may_send(mode: Mode, done: bool) -> bool
@@ -88,7 +95,7 @@ fn send_message(area: &mut [u8], s: Station, i: usize, j: usize, register: u32) 
     };
     parts::push_at(area, i, j, item);
     parts::put_station(area, i, x);
-    answer::entry(answer::SENT, i as u8, j as u8, register, x)
+    answer::entry(answer::SENT, i as u8, j as u8, register, x, answer::NO_NEWS)
 }
 
 pub fn send(area: &mut [u8], station: u32, peer: u32, register: u32) -> Stepped

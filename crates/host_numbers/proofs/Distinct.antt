@@ -6,6 +6,8 @@ use mathlib.Core.List.{List, [], _∷_}
 use mathlib.Core.Bool.{Bool, true, false, not, cond, _&&_}
 use lib.Dec.{eqb, ltb}
 use borrow.Author.Tests.{lt-ltb, le-ltb}
+use Rattle.codec.specs.Num.{AreBytes}
+use Rattle.clock.proofs.NewsLaws.{news-eight}
 use Rattle.clock.specs.declared.Verdict.{Verdict}
 use Rattle.clock.specs.declared.Verdict.the-variants.{Before, After, Same, Unordered}
 use Rattle.record.specs.Record.{parseRecord, wellMadeRecord}
@@ -24,11 +26,15 @@ use Rattle.reset.specs.Network.{quiescent}
 use Rattle.reset.specs.Config.{Config}
 use Rattle.reset.specs.Clock.{vector}
 use Rattle.reset.specs.State.{Mode, normal, mute, standBy, Item, message, resetReq, resetDone, State, linkAt}
-use Rattle.reset.specs.Steps.{Step, enter, send, recv, start, Answer, refused, entry, modeAfter, Outcome, guard, bounded, inBounds, receive, step}
+use Rattle.reset.specs.Steps.{Step, enter, send, recv, start, Entry, Answer, refused, entry, modeAfter, Outcome, guard, bounded, inBounds, receive, step}
+use Rattle.reset.proofs.Cases.{clash}
+use Rattle.reset.proofs.ConfigLaws.{shape}
+use Rattle.reset.proofs.StepLaws.{news-few}
 use Rattle.area.specs.Layout.{configAt, stateAt, test}
-use Rattle.area_calls.specs.Calls.{AreaStep, stepOn, RestAnswer, yes, no, restOn, restRefused}
+use Rattle.area_calls.specs.Calls.{AreaStep, imaged, stepOn, RestAnswer, yes, no, restOn, restRefused}
 use Rattle.station.specs.Image.{modeByte, modeOf}
 use Rattle.step_parts.specs.Answers.{modeCode, steppedOf}
+use Rattle.step_parts.proofs.Read.{passed, made}
 use Rattle.step_parts.specs.declared.answer.Answer.{Answer as CodeAnswer}
 use Rattle.step_parts.specs.declared.answer.Answer.the-variants.{Refused as NotDone, Entered, InMode}
 use Rattle.host_numbers.specs.Numbers.{Alike, entryMade, tells, modes, counts, stepNumber, restNumber, orderNumber, verdictNumber, blockNumber, countedNumber}
@@ -49,10 +55,10 @@ told-rest : (n : ℕ) → tells + n - tells ≡ n
 told-rest n = omega arith
 
 -- ---- steps
--- a refusal's number is below 10
+-- a refusal's number is below 10, and news at most 8
 abbrev pub Low : Answer → Type 0
 Low (refused k) = k < 10
-Low (entry e) = Unit {0}
+Low (entry e) = e .news ≤ 8
 Low (modeAfter i m p) = Unit {0}
 
 guarded : (s : State vector) (t : Bool) (k : ℕ) (o : Outcome vector) → k < 10 → Low (o .answer) → Low (guard s t k o .answer)
@@ -66,13 +72,13 @@ within-bounds c s o l = guarded s (not (inBounds c (o .after))) 9 o (omega arith
 
 received : (c : Config) (i j : ℕ) (s : State vector) (q : List (Item vector)) → Low (receive c i j s q .answer)
 received c i j s [] = omega arith
-received c i j s (message w g ∷ q) = within-bounds c s _ tt
+received c i j s (message w g ∷ q) = within-bounds c s _ (news-eight i _ _)
 received c i j s (resetReq ∷ q) = within-bounds c s _ tt
 received c i j s (resetDone ∷ q) = within-bounds c s _ tt
 
 stepped : (c : Config) (s : State vector) (p : Step) → Low (step c s p .answer)
-stepped c s (enter i g) = guarded s _ 4 _ (omega arith) (guarded s _ 6 _ (omega arith) (within-bounds c s _ tt))
-stepped c s (send i j g) = guarded s _ 4 _ (omega arith) (guarded s _ 4 _ (omega arith) (guarded s _ 5 _ (omega arith) (guarded s _ 6 _ (omega arith) (within-bounds c s _ tt))))
+stepped c s (enter i g) = guarded s _ 4 _ (omega arith) (guarded s _ 6 _ (omega arith) (within-bounds c s _ (omega arith)))
+stepped c s (send i j g) = guarded s _ 4 _ (omega arith) (guarded s _ 4 _ (omega arith) (guarded s _ 5 _ (omega arith) (guarded s _ 6 _ (omega arith) (within-bounds c s _ (omega arith)))))
 stepped c s (recv i j) = guarded s _ 4 _ (omega arith) (guarded s _ 4 _ (omega arith) (received c i j s (linkAt s j i)))
 stepped c s (start i) = guarded s _ 4 _ (omega arith) (guarded s _ 5 _ (omega arith) (guarded s _ 8 _ (omega arith) (within-bounds c s _ tt)))
 
@@ -82,7 +88,7 @@ unfolding stepOn
 step-low p a = by-test (λ (o : AreaStep). Low (o .answer)) (test a) (stepped (configAt a) (stateAt a) p) (omega arith)
 
 abbrev stepAt : ℕ → CodeAnswer
-stepAt k = cond (ltb k entryMade) (NotDone k) (cond (ltb k tells) Entered (InMode (modeCode (modeOf ((k - tells) % modes))) ((k - tells) / modes)))
+stepAt k = cond (ltb k entryMade) (NotDone k) (cond (ltb k tells) (Entered (k - entryMade)) (InMode (modeCode (modeOf ((k - tells) % modes))) ((k - tells) / modes)))
 
 mode-back : (m : Mode) → modeOf (modeByte m) ≡ m
 mode-back normal = refl
@@ -96,7 +102,9 @@ mode-small standBy = omega arith
 
 step-back : (o : Answer) → Low o → stepAt (stepNumber o) ≡ steppedOf o .answer
 step-back (refused k) l = rw (lt-ltb k entryMade (omega arith))
-step-back (entry e) l = refl
+step-back (entry e) l =
+    let f : entryMade + e .news - entryMade ≡ e .news = omega arith in
+    rw (le-ltb (entryMade + e .news) entryMade (omega arith), lt-ltb (entryMade + e .news) tells (omega arith), f)
 step-back (modeAfter i m p) l =
     let b = modeByte m in
     let h = mode-small m in
@@ -107,6 +115,15 @@ step-back (modeAfter i m p) l =
 -- whatever the steps and the areas, one number is one answer
 pub steps-distinct : (p q : Step) (a b : List ℕ) → stepNumber (stepOn p a .answer) ≡ stepNumber (stepOn q b .answer) → Alike (stepOn p a .answer) (stepOn q b .answer)
 steps-distinct p q a b e = sym (step-back (stepOn p a .answer) (step-low p a)) ∙ (ap stepAt e ∙ step-back (stepOn q b .answer) (step-low q b))
+
+-- an entry's number is 100 to 107
+pub entry-number : (p : Step) (a : List ℕ) (e : Entry) → AreBytes a → stepOn p a .answer ≡ entry e → (entryMade ≤ stepNumber (entry e)) × (stepNumber (entry e) ≤ 107)
+unfolding stepOn
+entry-number p a e b = go (test a) refl
+  where
+    go : (t : Bool) → test a ≡ t → cond t (imaged (configAt a) (step (configAt a) (stateAt a) p)) (record { answer = refused 2; area = a }) .answer ≡ entry e → (entryMade ≤ stepNumber (entry e)) × (stepNumber (entry e) ≤ 107)
+    go true w h = let f : e .news ≤ 7 = news-few (configAt a) (stateAt a) (shape (configAt a) (made (passed a b w)) .small) p e h in (omega arith, omega arith)
+    go false w h = clash (cc)
 
 -- no step on an area answers 11, the refusal of a record area
 eleven-apart : (o : Answer) → Low o → stepNumber o ≡ 11 → ⊥

@@ -36,7 +36,8 @@ malformed = 1
 abbrev pub areaLength : ℕ
 areaLength = 11
 
--- the answer of an entry, and where answers begin that tell numbers: a mode beside modes × phase, a count beside counts × number
+-- the answer of an entry, which tells a receipt's news beside it, and where answers begin that tell numbers: a mode beside modes × phase, a count
+-- beside counts × number
 abbrev pub entryMade : ℕ
 entryMade = 100
 
@@ -50,10 +51,10 @@ abbrev pub counts : ℕ
 counts = 16
 
 -- ---- of each answer
--- a step: 100 for an accepted entry, 1,000 + 4 × phase + mode for the mode and phase after; the mode is 0 normal, 1 mute, 2 stand-by
+-- a step: 100 + news for an accepted entry, of which only a receipt has news, up to 7; 1,000 + 4 × phase + mode for the mode and phase after; the mode is 0 normal, 1 mute, 2 stand-by
 abbrev pub stepNumber : Answer → ℕ
 stepNumber (refused k) = k
-stepNumber (entry e) = entryMade
+stepNumber (entry e) = entryMade + e .news
 stepNumber (modeAfter i m p) = tells + (modes * p + modeByte m)
 
 -- answers of steps that a host is told alike: equal but for the record of an entry, which is written beside the number, and the
@@ -91,10 +92,10 @@ countedNumber (NotCounted k) = k
 -- the same numbers, by the answer as the code has it
 abbrev pub codeNumber : CodeAnswer → ℕ
 codeNumber (NotDone k) = k
-codeNumber Entered = entryMade
+codeNumber (Entered b) = entryMade + b
 codeNumber (InMode m p) = tells + (modes * p + modeByte (modeView m))
 
 abbrev pub isEntry : CodeAnswer → Bool
 isEntry (NotDone k) = false
-isEntry Entered = true
+isEntry (Entered b) = true
 isEntry (InMode m p) = false

@@ -26,7 +26,7 @@ pub const MALFORMED: u64 = 1;
 
 pub const AREA_LENGTH: u64 = 11;
 
-// Answers that are no refusal: done, of calls that only write; an entry; rest; a verdict; and from TOLD on an answer tells numbers,
+// Answers that are no refusal: done, of calls that only write; an entry, with the news added; rest; a verdict; and from TOLD on an answer tells numbers,
 // a mode beside MODES times a phase, or a count beside COUNTS times a block's number.
 pub const DONE: u64 = 0;
 
@@ -63,7 +63,7 @@ pub fn number_of(answer: Answer) -> u64
 {
     match answer {
         Answer::Refused(k) => k as u64,
-        Answer::Entered => ENTRY,
+        Answer::Entered { news } => ENTRY + (news as u64),
         Answer::InMode { mode, phase } => in_mode(mode, phase),
     }
 }
@@ -73,7 +73,7 @@ pub fn is_entry(answer: Answer) -> bool
 {
     match answer {
         Answer::Refused(k) => false,
-        Answer::Entered => true,
+        Answer::Entered { news } => true,
         Answer::InMode { mode, phase } => false,
     }
 }

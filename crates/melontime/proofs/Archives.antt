@@ -15,7 +15,7 @@ use Rattle.archive.proofs.Tested.{record-length}
 use Rattle.concurrent.specs.Unordered.{isUnordered, unorderedCount, unorderedAnswer, UnorderedList}
 use Rattle.archive.specs.declared.Counted.{Counted}
 use Rattle.archive.specs.declared.Counted.the-variants.{Count, Refused as NotCounted}
-use Rattle.concurrent.proofs.Below.{count-most}
+use Rattle.codec.proofs.CountLaws.{count-most}
 use Rattle.host_numbers.specs.Numbers.{greatest, countedNumber}
 use Rattle.melontime.specs.Archives.{HostList}
 

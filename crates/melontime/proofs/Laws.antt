@@ -2,7 +2,7 @@
 use Prim.Native.Nat.{ℕ}
 use mathlib.Core.Path.{_≡_, refl, sym, ap, _∙_}
 use mathlib.Core.List.{List}
-use mathlib.Core.Bool.{true, true≢false}
+use mathlib.Core.Bool.{true}
 use lib.ListN.{length}
 use borrow.Author.Tests.{eq-eqb, ne-eqb}
 use Rattle.codec.specs.Splice.{splice}
@@ -12,12 +12,10 @@ use Rattle.record.proofs.Laws.{image-length}
 use Rattle.reset.specs.State.{normal, mute, standBy}
 use Rattle.reset.specs.Steps.{Step, Answer, refused, entry, modeAfter}
 use Rattle.step_parts.specs.Answers.{steppedOf}
-use Rattle.step_parts.specs.declared.answer.Answer.{Answer as CodeAnswer}
-use Rattle.step_parts.specs.declared.answer.Answer.the-variants.{Refused as NotDone, Entered, InMode}
 use Rattle.step_parts.specs.declared.answer.Stepped.{Stepped}
 use Rattle.area_calls.specs.Calls.{stepOn}
 use Rattle.network.specs.Answers.{Steps}
-use Rattle.host_numbers.specs.Numbers.{recordLength, areaLength, entryMade, stepNumber, codeNumber, isEntry}
+use Rattle.host_numbers.specs.Numbers.{recordLength, areaLength, stepNumber, codeNumber, isEntry}
 use Rattle.melontime.specs.Calls.{hostStep, recordAfter, eventAfter, Returns}
 
 numbered : (o : Answer) → codeNumber (steppedOf o .answer) ≡ stepNumber o
@@ -49,11 +47,6 @@ answered {p} {a} {d} h k t =
       event = rw e (t .1 ∙ (ap (λ (x : Stepped). eventAfter d x) (k .answer) ∙ recorded d o));
     }
 
--- an accepted entry: its number, and its record
-told-number : (o : CodeAnswer) → isEntry o ≡ true → entryMade ≡ codeNumber o
-told-number (NotDone k) h = absurd (true≢false (sym h))
-told-number Entered h = refl
-told-number (InMode m p) h = absurd (true≢false (sym h))
-
-pub entered-told : (r : Stepped) (d f : List ℕ) → length d ≡ recordLength → isEntry (r .answer) ≡ true → f ≡ splice d 0 (imageRecord (r .event)) → (entryMade ≡ codeNumber (r .answer)) × (f ≡ eventAfter d r)
-entered-told r d f h t e = (told-number (r .answer) t, rw t (e ∙ splice-all d (imageRecord (r .event)) (image-length (r .event) ∙ sym h)))
+-- an accepted entry's record
+pub entered-told : (r : Stepped) (d f : List ℕ) → length d ≡ recordLength → isEntry (r .answer) ≡ true → f ≡ splice d 0 (imageRecord (r .event)) → f ≡ eventAfter d r
+entered-told r d f h t e = rw t (e ∙ splice-all d (imageRecord (r .event)) (image-length (r .event) ∙ sym h))

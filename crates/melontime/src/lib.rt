@@ -12,7 +12,6 @@ ghost use Rattle.host_numbers.specs.Headers.{headerWritten, headerFields};
 ghost use Rattle.melontime.specs.Archives.{recordFound, HostList};
 use host_numbers::AREA_LENGTH;
 use host_numbers::DONE;
-use host_numbers::ENTRY;
 use host_numbers::FIELDS;
 use host_numbers::MALFORMED;
 use host_numbers::RECORD;
@@ -25,11 +24,12 @@ fn tell(r: Stepped, event: &mut [u8]) -> u64
 {
     let answer = r.answer;
     let e = r.event;
+    let number = host_numbers::number_of(answer);
     if host_numbers::is_entry(answer) {
         record::store(event, e);
-        return ENTRY;
+        return number;
     }
-    host_numbers::number_of(answer)
+    number
 }
 
 #[no_mangle]

@@ -46,9 +46,17 @@ fn take_message(area: &mut [u8], t: u16, s: Station, x: Item, i: usize, j: usize
     }
     let theirs = x.counts;
     let y = reset_rules::receiving(s, i, theirs);
+    let after = y.station;
     parts::take_at(area, j, i);
-    parts::put_station(area, i, y);
-    answer::entry(answer::RECEIVED, i as u8, j as u8, x.register, y)
+    parts::put_station(area, i, after);
+    answer::entry(
+        answer::RECEIVED,
+        i as u8,
+        j as u8,
+        x.register,
+        after,
+        y.news,
+    )
 }
 
 // Station i takes the first item of the link from j.

@@ -1,17 +1,20 @@
 -- Laws of every step: the cases of its outcome, that a refused step leaves the state as it was, that number 9's bounds are kept, what an accepted
--- entry's record bears, and that the answer is of the station that took the step. Assumes nothing.
-use Prim.Native.Nat.{ℕ, _<_}
+-- entry's record bears and what news it tells, and that the answer is of the station that took the step. Assumes nothing.
+use Prim.Native.Nat.{ℕ, _<_, _≤_}
 use mathlib.Core.Path.{_≡_, refl}
 use mathlib.Core.List.{List, [], _∷_}
 use mathlib.Core.Bool.{Bool, true, false}
-use borrow.Author.Tests.{not-false, leb-false}
+use native.Mathlib.Omega.{arith}
+use borrow.Author.Tests.{not-false, leb-false, ltb-true}
+use Rattle.clock.proofs.NewsLaws.{news-most}
 use Rattle.reset.specs.Config.{Config, isStation, neighbours, limitAt, allowanceAt}
 use Rattle.reset.specs.Clock.{Clock}
-use Rattle.reset.specs.State.{Mode, normal, mute, standBy, Item, message, resetReq, resetDone, State, stationAt, linkAt, doneSeen, sentTo}
-use Rattle.reset.specs.Bears.{Bears, Taker}
-use Rattle.reset.specs.Steps.{Step, enter, send, recv, start, Entry, refused, entry, Outcome, refuse, guard, inBounds, bounded, doEnter, maySend, doSend, doReceive, withReq, withDone, doMark, receive, doStart, isNormal, step}
+use Rattle.reset.specs.State.{Mode, normal, mute, standBy, Item, message, resetReq, resetDone, State, stationAt, linkAt, doneSeen, sentTo, setStation}
+use Rattle.reset.specs.Bears.{Bears, Tells, Taker}
+use Rattle.reset.specs.Steps.{Step, enter, send, recv, start, Entry, refused, entry, Outcome, refuse, guard, inBounds, bounded, doEnter, maySend, doSend, receiving, doReceive, withReq, withDone, doMark, receive, doStart, isNormal, step}
 use Rattle.reset.specs.Network.{run}
 use Rattle.reset.proofs.Cases.{clash}
+use Rattle.reset.proofs.Views.{station-set, station-set-link}
 
 -- ---- the tests that refuse
 module _ {K : Clock} (c : Config) (s : State K) (P : Outcome K → Type 0) where
@@ -121,6 +124,35 @@ record-bears c s =
       own = λ i g si l b e h. rw (← entry-same _ e h) (refl, refl, refl, refl, refl);
       sent = λ i j g si ij m l b e h. rw (← entry-same _ e h) (refl, refl, refl, refl, refl);
       received = λ i j w g q si ij k b e h. rw (← entry-same _ e h) (refl, refl, refl, refl, (w, q, k));
+      req = λ i j q si ij k b e h. clash (cc);
+      done = λ i j q si ij k b e h. clash (cc);
+      started = λ i si m l b e h. clash (cc);
+    })
+
+-- ---- the news that it tells is what grew, from the state before to the state after
+pub news-told : {K : Clock} (c : Config) (s : State K) (p : Step) (e : Entry) → step c s p .answer ≡ entry e → Tells s p e (step c s p .after)
+news-told c s =
+    of-step c s (λ p o. (e : Entry) → o .answer ≡ entry e → Tells s p e (o .after))
+    (record {
+      refusal = λ p k e h. clash (cc);
+      own = λ i g si l b e h. rw (← entry-same _ e h) refl;
+      sent = λ i j g si ij m l b e h. rw (← entry-same _ e h) refl;
+      received = λ i j w g q si ij k b e h. rw (← entry-same _ e h, station-set-link (setStation s i (receiving i j w (stationAt s i))) j i q i, station-set s i (receiving i j w (stationAt s i)));
+      req = λ i j q si ij k b e h. clash (cc);
+      done = λ i j q si ij k b e h. clash (cc);
+      started = λ i si m l b e h. clash (cc);
+    })
+
+-- at most seven stations are others
+pub news-few : {K : Clock} (c : Config) (s : State K) → c .n ≤ 8 → (p : Step) (e : Entry) → step c s p .answer ≡ entry e → e .news ≤ 7
+unfolding isStation
+news-few {K} c s n =
+    of-step c s (λ p o. (e : Entry) → o .answer ≡ entry e → e .news ≤ 7)
+    (record {
+      refusal = λ p k e h. clash (cc);
+      own = λ i g si l b e h. rw (← entry-same _ e h) (omega arith);
+      sent = λ i j g si ij m l b e h. rw (← entry-same _ e h) (omega arith);
+      received = λ i j w g q si ij k b e h. rw (← entry-same _ e h) (news-most i _ _ (omega (arith, ltb-true i (c .n) si)));
       req = λ i j q si ij k b e h. clash (cc);
       done = λ i j q si ij k b e h. clash (cc);
       started = λ i si m l b e h. clash (cc);

@@ -2,11 +2,11 @@
 use Prim.Native.Nat.{ℕ, suc}
 use mathlib.Core.List.{List, [], _∷_}
 use mathlib.Core.Bool.{Bool, true, false, not, cond, _&&_, _||_}
-use lib.Dec.{leb}
+use lib.Dec.{eqb, leb}
 use lib.ListN.{getD, length}
 use Rattle.codec.specs.Every.{every, some}
 use Rattle.codec.specs.Put.{put}
-use Rattle.clock.specs.Timestamp.{zeros}
+use Rattle.clock.specs.Timestamp.{zeros, news}
 use Rattle.clock.specs.Range.{lastPhase}
 use Rattle.reset.specs.Config.{Config, isStation, neighbours, limitAt, allowanceAt, places}
 use Rattle.reset.specs.Clock.{Clock}
@@ -97,6 +97,7 @@ stationOfStep (recv i j) = i
 stationOfStep (start i) = i
 
 -- An accepted entry's record: kind (1 own, 2 sent, 3 received), station, peer (255 for own), phase, register number, eight counts.
+-- Beside the record, of a received one: how many of the other stations' counts grew, its news; else 0.
 pub record Entry : Type 0 where
   pub kind : ℕ
   pub station : ℕ
@@ -104,6 +105,11 @@ pub record Entry : Type 0 where
   pub phase : ℕ
   pub register : ℕ
   pub counts : List ℕ
+  pub news : ℕ
+
+-- a received entry, a receipt: its answer tells its news after its record
+abbrev pub isReceipt : Entry → Bool
+isReceipt e = eqb (e .kind) 3
 
 -- A refusal's number; an accepted entry's record; for other steps the station, and its mode and phase after.
 pub data Answer : Type 0 where
@@ -148,15 +154,15 @@ bounded c s o = guard s (not (inBounds c (o .after))) 9 o
 abbrev pub entered : {K : Clock} → ℕ → Station K → Station K
 entered {K} i x = withTime (K .tick i (x .time)) (withOwn (suc (x .own)) x)
 
--- an entry's record: its kind, station i, peer j, register number g, and phase and counts of the station, whose record is x after the step
-abbrev pub entryOf : {K : Clock} → ℕ → ℕ → ℕ → ℕ → Station K → Entry
-entryOf {K} k i j g x = record { kind = k; station = i; peer = j; phase = x .phase; register = g; counts = K .stamp i (x .time) }
+-- an entry's record: its kind, station i, peer j, register number g, and phase and counts of the station, whose record is x after the step; its news b
+abbrev pub entryOf : {K : Clock} → ℕ → ℕ → ℕ → ℕ → Station K → ℕ → Entry
+entryOf {K} k i j g x b = record { kind = k; station = i; peer = j; phase = x .phase; register = g; counts = K .stamp i (x .time); news = b }
 
 -- the entry, of kind own
 abbrev pub doEnter : {K : Clock} → ℕ → ℕ → State K → Outcome K
 doEnter i g s =
     let x = entered i (stationAt s i) in
-    record { answer = entry (entryOf 1 i 255 g x); after = setStation s i x }
+    record { answer = entry (entryOf 1 i 255 g x 0); after = setStation s i x }
 
 -- ---- send i j reg: own count +1; that timestamp and the register number are put on the link from i to j
 -- the record after it: one message more is sent on that link
@@ -167,7 +173,7 @@ sending {K} i j x = withTime (K .sent i j (K .tick i (x .time))) (withSent (put 
 abbrev pub doSend : {K : Clock} → ℕ → ℕ → ℕ → State K → Outcome K
 doSend {K} i j g s =
     let x = sending i j (stationAt s i) in
-    record { answer = entry (entryOf 2 i j g x); after = putOn (setStation s i x) i j (message (K .load i j (K .tick i (stationAt s i .time))) g) }
+    record { answer = entry (entryOf 2 i j g x 0); after = putOn (setStation s i x) i j (message (K .load i j (K .tick i (stationAt s i .time))) g) }
 
 -- allowed in normal, and in stand-by where j's done is seen
 abbrev pub maySend : Mode → Bool → Bool
@@ -180,11 +186,15 @@ maySend standBy seen = seen
 abbrev pub receiving : {K : Clock} → ℕ → ℕ → K .Load → Station K → Station K
 receiving {K} i j w x = withTime (K .take i j w (x .time)) x
 
--- the entry, of kind received, with the message's register number
+-- the news of it: how many of the other stations' counts grew, by the timestamps before and after
+abbrev pub newsOf : {K : Clock} → ℕ → Station K → Station K → ℕ
+newsOf {K} i x y = news i (K .stamp i (x .time)) (K .stamp i (y .time))
+
+-- the entry, of kind received, with the message's register number, and its news
 abbrev pub doReceive : {K : Clock} → ℕ → ℕ → K .Load → ℕ → List (Item K) → State K → Outcome K
 doReceive i j w g q s =
     let x = receiving i j w (stationAt s i) in
-    record { answer = entry (entryOf 3 i j g x); after = setLink (setStation s i x) j i q }
+    record { answer = entry (entryOf 3 i j g x (newsOf i (stationAt s i) x)); after = setLink (setStation s i x) j i q }
 
 -- reset_req marks req seen, reset_done marks done seen, each in any mode
 abbrev pub withReq : {K : Clock} → ℕ → Station K → Station K

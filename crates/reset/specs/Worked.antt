@@ -3,16 +3,17 @@
 use Prim.Native.Nat.{ℕ}
 use mathlib.Core.Path.{_≡_, refl}
 use mathlib.Core.List.{List, [], _∷_, _++_, map}
+use mathlib.Core.Bool.{cond}
 use lib.ListN.{getD, take, drop, replicate}
-use Rattle.codec.specs.Every.{every, some}
+use Rattle.codec.specs.Every.{every, some, countBelow}
 use Rattle.codec.specs.Put.{put}
 use Rattle.codec.specs.Rows.{upto}
-use Rattle.clock.specs.Timestamp.{zeros}
+use Rattle.clock.specs.Timestamp.{zeros, news}
 use Rattle.reset.specs.Reach.{limit, linked}
 use Rattle.reset.specs.Config.{Config, isStation, neighbours, limitAt, allowanceAt, places}
 use Rattle.reset.specs.Clock.{vector}
 use Rattle.reset.specs.State.{Mode, normal, mute, standBy, State, noneSeen, stationAt, linkAt, setStation, setLink, putLinked, putFirst, putOnAll}
-use Rattle.reset.specs.Steps.{everyNeighbour, someNeighbour, beginReset, renew, wake, turnOnce, turn, Step, enter, send, recv, start, Answer, refused, entry, modeAfter, guard, inBounds, bounded}
+use Rattle.reset.specs.Steps.{everyNeighbour, someNeighbour, beginReset, renew, wake, turnOnce, turn, Step, enter, send, recv, start, Answer, isReceipt, refused, entry, modeAfter, guard, inBounds, bounded}
 use Rattle.reset.specs.Network.{initial, Answered, log}
 
 -- ---- headers, as turnover's lines set them
@@ -30,20 +31,22 @@ limitTo i j l c = record { n = c .n; t = c .t; allowances = c .allowances; limit
 abbrev pub link : ℕ → ℕ → ℕ → Config → Config
 link i j l c = limitTo j i l (limitTo i j l c)
 
--- ---- answers, as turnover prints them: entry, phase, station and the n counts; mode, phase, station and mode; no and the refusal
+-- ---- answers, as turnover prints them: entry, phase, station and the n counts, and for a receipt its news; mode, phase, station and mode; no and
+-- the refusal
 pub data Line : Type 0 where
   entryLine : ℕ → ℕ → List ℕ → Line
+  receiptLine : ℕ → ℕ → List ℕ → ℕ → Line
   modeLine : ℕ → ℕ → Mode → Line
   noLine : ℕ → Line
 
 abbrev pub line : Config → Answer → Line
 line c (refused k) = noLine k
-line c (entry e) = entryLine (e .phase) (e .station) (take (c .n) (e .counts))
+line c (entry e) = cond (isReceipt e) (receiptLine (e .phase) (e .station) (take (c .n) (e .counts)) (e .news)) (entryLine (e .phase) (e .station) (take (c .n) (e .counts)))
 line c (modeAfter i m p) = modeLine p i m
 
 -- the answers of a list of steps, from a state and from the initial one; unfolding it unfolds all that a step computes with
 unfoldable pub linesFrom : Config → State vector → List Step → List Line
-unfolding zeros every some upto limit linked isStation neighbours limitAt allowanceAt places noneSeen stationAt linkAt setStation setLink putLinked putFirst putOnAll everyNeighbour someNeighbour beginReset renew wake turnOnce turn guard inBounds bounded initial
+unfolding zeros news every some countBelow upto limit linked isStation neighbours limitAt allowanceAt places noneSeen stationAt linkAt setStation setLink putLinked putFirst putOnAll everyNeighbour someNeighbour beginReset renew wake turnOnce turn guard inBounds bounded initial
 linesFrom c s ps = map (λ (x : Answered). line c (x .answer)) (log c s ps)
 
 unfoldable pub lines : Config → List Step → List Line
@@ -61,13 +64,13 @@ pub worked-listing : lines pair listing
     ≡ entryLine 0 0 (1 ∷ 0 ∷ [])
     ∷ entryLine 0 0 (2 ∷ 0 ∷ [])
     ∷ modeLine 0 1 mute
-    ∷ entryLine 0 1 (2 ∷ 1 ∷ [])
+    ∷ receiptLine 0 1 (2 ∷ 1 ∷ []) 1
     ∷ modeLine 1 0 standBy
     ∷ modeLine 1 1 standBy
     ∷ modeLine 1 1 normal
     ∷ entryLine 1 1 (0 ∷ 1 ∷ [])
     ∷ modeLine 1 0 normal
-    ∷ entryLine 1 0 (1 ∷ 1 ∷ [])
+    ∷ receiptLine 1 0 (1 ∷ 1 ∷ []) 1
     ∷ noLine 7
     ∷ []
 unfolding lines
@@ -118,7 +121,7 @@ pub record Traps : Type 0 where
       ≡ modeLine 0 0 mute ∷ modeLine 1 1 standBy ∷ modeLine 0 0 mute ∷ modeLine 0 0 mute ∷ modeLine 1 2 standBy ∷ modeLine 1 0 standBy ∷ modeLine 1 0 normal ∷ []
   -- own entries and messages sent are counted anew after the reset
   pub counted-anew : lines strict (enter 0 1 ∷ enter 0 2 ∷ send 0 1 3 ∷ send 0 1 4 ∷ start 0 ∷ recv 1 0 ∷ recv 1 0 ∷ recv 0 1 ∷ enter 0 5 ∷ recv 0 1 ∷ send 0 1 6 ∷ [])
-      ≡ entryLine 0 0 (1 ∷ 0 ∷ []) ∷ noLine 6 ∷ entryLine 0 0 (2 ∷ 0 ∷ []) ∷ noLine 6 ∷ modeLine 0 0 mute ∷ entryLine 0 1 (2 ∷ 1 ∷ []) ∷ modeLine 1 1 standBy
+      ≡ entryLine 0 0 (1 ∷ 0 ∷ []) ∷ noLine 6 ∷ entryLine 0 0 (2 ∷ 0 ∷ []) ∷ noLine 6 ∷ modeLine 0 0 mute ∷ receiptLine 0 1 (2 ∷ 1 ∷ []) 1 ∷ modeLine 1 1 standBy
       ∷ modeLine 1 0 standBy ∷ entryLine 1 0 (1 ∷ 0 ∷ []) ∷ modeLine 1 0 normal ∷ entryLine 1 0 (2 ∷ 0 ∷ []) ∷ []
   -- what was sent and entered in stand-by counts when the station is normal again: limit and allowance are used up
   pub counted-in-stand-by : drop 5 (lines middle (allReset ++ (recv 0 1 ∷ send 0 1 7 ∷ enter 0 8 ∷ recv 0 2 ∷ send 0 1 9 ∷ enter 0 10 ∷ [])))
@@ -128,7 +131,7 @@ pub record Traps : Type 0 where
   -- the limit of a send and the places of a link are those of its own direction, not of the way back
   pub own-direction : lines (skewed 8) (send 0 1 1 ∷ send 0 1 2 ∷ send 0 1 3 ∷ send 0 1 4 ∷ send 1 0 5 ∷ send 1 0 6 ∷ start 0 ∷ start 1 ∷ recv 0 1 ∷ recv 0 1 ∷ [])
       ≡ entryLine 0 0 (1 ∷ 0 ∷ []) ∷ entryLine 0 0 (2 ∷ 0 ∷ []) ∷ entryLine 0 0 (3 ∷ 0 ∷ []) ∷ noLine 6 ∷ entryLine 0 1 (0 ∷ 1 ∷ []) ∷ noLine 6
-      ∷ modeLine 0 0 mute ∷ modeLine 0 1 mute ∷ entryLine 0 0 (4 ∷ 1 ∷ []) ∷ modeLine 1 0 standBy ∷ []
+      ∷ modeLine 0 0 mute ∷ modeLine 0 1 mute ∷ receiptLine 0 0 (4 ∷ 1 ∷ []) 1 ∷ modeLine 1 0 standBy ∷ []
   -- a link holds two items more than its limit: a message, a req and a done (one more only: 9)
   pub two-more-places : lines strict (send 0 1 1 ∷ start 0 ∷ start 1 ∷ recv 0 1 ∷ []) ≡ entryLine 0 0 (1 ∷ 0 ∷ []) ∷ modeLine 0 0 mute ∷ modeLine 0 1 mute ∷ modeLine 1 0 standBy ∷ []
   -- a third send on a limit of 2
@@ -160,3 +163,32 @@ traps =
       number-four = refl;
       four-five-six = refl;
     }
+
+-- ---- how much news messages bring
+-- three stations, each linked to both others
+abbrev pub triangle : Config
+triangle = link 1 2 2 (link 0 2 2 (link 0 1 2 (net 3 9)))
+
+-- eight stations in a row, and a message from each to the next lower, from 7 down to 0, each after a receipt
+abbrev pub row : Config
+row = link 6 7 1 (link 5 6 1 (link 4 5 1 (link 3 4 1 (link 2 3 1 (link 1 2 1 (link 0 1 1 (net 8 9)))))))
+
+abbrev pub passedOn : List Step
+passedOn = send 7 6 1 ∷ recv 6 7 ∷ send 6 5 2 ∷ recv 5 6 ∷ send 5 4 3 ∷ recv 4 5 ∷ send 4 3 4 ∷ recv 3 4 ∷ send 3 2 5 ∷ recv 2 3 ∷ send 2 1 6 ∷ recv 1 2 ∷ send 1 0 7 ∷ recv 0 1 ∷ []
+
+pub record News : Type 0 where
+  -- a message that was overtaken by way of station 2 brings none; the one by that way brought two
+  pub nothing-new : lines triangle (send 1 0 1 ∷ send 1 2 2 ∷ recv 2 1 ∷ send 2 0 3 ∷ recv 0 2 ∷ recv 0 1 ∷ [])
+      ≡ entryLine 0 1 (0 ∷ 1 ∷ 0 ∷ []) ∷ entryLine 0 1 (0 ∷ 2 ∷ 0 ∷ []) ∷ receiptLine 0 2 (0 ∷ 2 ∷ 1 ∷ []) 1 ∷ entryLine 0 2 (0 ∷ 2 ∷ 2 ∷ [])
+      ∷ receiptLine 0 0 (1 ∷ 2 ∷ 2 ∷ []) 2 ∷ receiptLine 0 0 (2 ∷ 2 ∷ 2 ∷ []) 0 ∷ []
+  -- a message that is new of station 1 and old of station 2 brings one
+  pub old-and-new : drop 4 (lines triangle (send 2 1 1 ∷ recv 1 2 ∷ send 2 0 2 ∷ send 1 0 3 ∷ recv 0 2 ∷ recv 0 1 ∷ []))
+      ≡ receiptLine 0 0 (1 ∷ 0 ∷ 2 ∷ []) 1 ∷ receiptLine 0 0 (2 ∷ 2 ∷ 2 ∷ []) 1 ∷ []
+  -- the own count, which the message bears too, is never news: it tells station 0 of 1 alone
+  pub own-known : drop 2 (lines triangle (send 0 1 1 ∷ recv 1 0 ∷ send 1 0 2 ∷ recv 0 1 ∷ [])) ≡ entryLine 0 1 (1 ∷ 2 ∷ 0 ∷ []) ∷ receiptLine 0 0 (2 ∷ 2 ∷ 0 ∷ []) 1 ∷ []
+  -- passed on along the row, each receipt brings one more, up to all seven others
+  pub all-others : drop 13 (lines row passedOn) ≡ receiptLine 0 0 (1 ∷ 2 ∷ 2 ∷ 2 ∷ 2 ∷ 2 ∷ 2 ∷ 1 ∷ []) 7 ∷ []
+
+pub news-brought : News
+unfolding lines
+news-brought = record { nothing-new = refl; old-and-new = refl; own-known = refl; all-others = refl }

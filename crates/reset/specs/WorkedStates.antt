@@ -14,7 +14,7 @@ use Rattle.reset.specs.State.{Mode, normal, mute, standBy, Item, message
 use Rattle.reset.specs.Steps.{Step, enter, send, recv, start}
 use Rattle.reset.specs.Network.{initial, run, stationsQuiescent, linksEmpty, quiescent}
 use Rattle.reset.specs.WellFormed.{sentFits, marksFit, stationFits, linkFits, shapeFits, wellFormed}
-use Rattle.reset.specs.Worked.{net, allow, limitTo, link, Line, entryLine, modeLine, noLine, linesFrom, pair, listing, lone, strict, middle, skewed}
+use Rattle.reset.specs.Worked.{net, allow, limitTo, link, Line, entryLine, receiptLine, modeLine, noLine, linesFrom, pair, listing, lone, strict, middle, skewed}
 
 -- ---- headers
 -- the five network rules, in document 01's order
@@ -190,11 +190,11 @@ pub record LentSteps : Type 0 where
   -- 9 for a phase, a count or an item beyond its bound; 6 comes before 9; the state is left: the next step finds it so
   pub phase-beyond : Lent (on 1 0 (resetReq ∷ []) (with (held 0 0 normal 999999 0 0 false true))) (recv 0 1 ∷ enter 0 1 ∷ []) (noLine 9 ∷ entryLine 999999 0 (1 ∷ 0 ∷ []) ∷ [])
   pub count-beyond : Lent (on 1 0 (notes 1 0 0) (with (held 7 0 normal 0 2 1 false true))) (enter 0 1 ∷ send 0 1 1 ∷ recv 0 1 ∷ []) (noLine 9 ∷ noLine 9 ∷ noLine 9 ∷ [])
-  pub item-beyond : Lent (on 0 1 (notes 4 0 0) (with (held 0 0 normal 0 0 0 false true))) (send 0 1 1 ∷ start 0 ∷ recv 1 0 ∷ send 0 1 1 ∷ []) (noLine 9 ∷ noLine 9 ∷ entryLine 0 1 (0 ∷ 1 ∷ []) ∷ entryLine 0 0 (1 ∷ 0 ∷ []) ∷ [])
+  pub item-beyond : Lent (on 0 1 (notes 4 0 0) (with (held 0 0 normal 0 0 0 false true))) (send 0 1 1 ∷ start 0 ∷ recv 1 0 ∷ send 0 1 1 ∷ []) (noLine 9 ∷ noLine 9 ∷ receiptLine 0 1 (0 ∷ 1 ∷ []) 0 ∷ entryLine 0 0 (1 ∷ 0 ∷ []) ∷ [])
   pub six-before-nine : Lent (with (held 7 0 normal 0 3 2 false true)) (enter 0 1 ∷ send 0 1 1 ∷ []) (noLine 6 ∷ noLine 6 ∷ [])
-  -- a receipt raises each other count to the greater, and the own count by 1 whatever the message bears
-  pub own-count : Lent (on 1 0 (notes 1 5 3) (with (held 2 1 normal 0 0 0 false true))) (recv 0 1 ∷ []) (entryLine 0 0 (3 ∷ 3 ∷ []) ∷ [])
-  pub others-greater : Lent (on 1 0 (notes 1 5 3) (with (held 2 4 normal 0 0 0 false true))) (recv 0 1 ∷ []) (entryLine 0 0 (3 ∷ 4 ∷ []) ∷ [])
+  -- a receipt raises each other count to the greater, and the own count by 1 whatever the message bears; news is what grew of the others
+  pub own-count : Lent (on 1 0 (notes 1 5 3) (with (held 2 1 normal 0 0 0 false true))) (recv 0 1 ∷ []) (receiptLine 0 0 (3 ∷ 3 ∷ []) 1 ∷ [])
+  pub others-greater : Lent (on 1 0 (notes 1 5 3) (with (held 2 4 normal 0 0 0 false true))) (recv 0 1 ∷ []) (receiptLine 0 0 (3 ∷ 4 ∷ []) 0 ∷ [])
   -- three rules in a row, b, c and a: a reset at once, into the next phase's stand-by
   pub three-in-a-row : Lent (on 1 0 (resetDone ∷ []) (with (held 1 0 standBy 4 1 0 true false))) (recv 0 1 ∷ recv 1 0 ∷ recv 1 0 ∷ recv 1 0 ∷ []) (modeLine 5 0 standBy ∷ modeLine 1 1 standBy ∷ modeLine 1 1 normal ∷ noLine 7 ∷ [])
 

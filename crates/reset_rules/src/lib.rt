@@ -5,10 +5,11 @@ ghost use mathlib.Core.Bool.{true, false};
 ghost use Prim.Native.Nat.{ℕ, suc, _+_, _<_, _≤_};
 ghost use lib.ListN.{getD};
 ghost use Rattle.clock.specs.Range.{lastPhase};
+ghost use Rattle.clock.specs.Timestamp.{news};
 ghost use Rattle.codec.specs.Put.{put};
 ghost use Rattle.reset.specs.Config.{Config};
 ghost use Rattle.reset.specs.Clock.{vector};
-ghost use Rattle.reset.specs.Steps.{entered as Entered, sending as Sending, receiving as Receiving, withReq, withDone, begun, renewed, woken};
+ghost use Rattle.reset.specs.Steps.{entered as Entered, sending as Sending, receiving as Receiving, newsOf, withReq, withDone, begun, renewed, woken};
 ghost use Rattle.station.specs.View.{stationView};
 ghost use Rattle.reset_rules.specs.Raise.{raisedBy};
 ghost use Rattle.reset_rules.specs.Turn.{turned, started};
@@ -24,6 +25,12 @@ pub struct Turned {
     pub station: Station,
     pub first: u8,
     pub second: u8,
+}
+
+// A station that has taken a message, and the news that this brought.
+pub struct Received {
+    pub station: Station,
+    pub news: u8,
 }
 
 fn one_more(sent: [u8; 8], j: usize) -> [u8; 8]
@@ -72,23 +79,25 @@ pub fn sending(s: Station, i: usize, j: usize) -> Station
     x
 }
 
-// Station i's counts raised in place, by those of a message.
-pub fn raise(s: &mut Station, counts: [u16; 8], i: usize)
+// Station i's counts raised in place, by those of a message. Answers the news: how many of the other stations' counts grew.
+pub fn raise(s: &mut Station, counts: [u16; 8], i: usize) -> u8
     requires { ⌜ (i < 8) × (getD (now s .counts) i 0 < 65535) ⌝ }
-    ensures { λ _. ⌜ now (s .exit) ≡ raisedBy i counts (now (s .entry)) ⌝ }
+    ensures { λ r. ⌜ (now (s .exit) ≡ raisedBy i counts (now (s .entry))) × (r ≡ news i (now (s .entry) .counts) (now (s .exit) .counts)) ⌝ }
 {
     let own = s.counts;
-    s.counts = clock::raise(own, counts, i);
+    let raised = clock::raise(own, counts, i);
+    s.counts = raised;
+    clock::news(own, raised, i)
 }
 
 // Station i takes a message with these counts: its own are raised.
-pub fn receiving(s: Station, i: usize, counts: [u16; 8]) -> Station
+pub fn receiving(s: Station, i: usize, counts: [u16; 8]) -> Received
     requires { ⌜ (i < 8) × (getD (s .counts) i 0 < 65535) ⌝ }
-    ensures { λ r. ⌜ ((j : ℕ) → stationView r ≡ Receiving {K = vector} i j counts (stationView s)) ⌝ }
+    ensures { λ r. ⌜ ((j : ℕ) → stationView (r .station) ≡ Receiving {K = vector} i j counts (stationView s)) × (r .news ≡ newsOf i (stationView s) (stationView (r .station))) ⌝ }
 {
     let mut x = s;
-    raise(&mut x, counts, i);
-    x
+    let news = raise(&mut x, counts, i);
+    Received { station: x, news }
 }
 
 // reset_req from j is seen.

@@ -77,11 +77,11 @@ module _ (c : Config) (w : wellMade c ≡ true) (u : Rules c) where
     kind-small : k < 256
     peer-small : j < 256
     peer-fits : peerFits k i j ≡ true
-    peer-known : (g : ℕ) (x : Station vector) → peerKnown (c .n) (c .limits) (eventRecord (entryOf k i j g x)) ≡ true
+    peer-known : (g : ℕ) (x : Station vector) (b : ℕ) → peerKnown (c .n) (c .limits) (eventRecord (entryOf k i j g x b)) ≡ true
 
   own-peer : (i : ℕ) → Peer 1 i 255
   unfolding peerFits peerKnown
-  own-peer i = record { kind-small = omega arith; peer-small = omega arith; peer-fits = refl; peer-known = λ g x. refl }
+  own-peer i = record { kind-small = omega arith; peer-small = omega arith; peer-fits = refl; peer-known = λ g x b. refl }
 
   module _ (i j : ℕ) (ij : neighbours c i j ≡ true) where
     sent-peer : Peer 2 i j
@@ -93,7 +93,7 @@ module _ (c : Config) (w : wellMade c ≡ true) (u : Rules c) where
           kind-small = omega arith;
           peer-small = omega arith;
           peer-fits = rw (lt-ltb j 8 (omega arith), ne-eqb j i (not-itself c u i j ij));
-          peer-known = λ g x. rw (lt-ltb j (c .n) l, has-link c i j ij);
+          peer-known = λ g x b. rw (lt-ltb j (c .n) l, has-link c i j ij);
         }
 
     received-peer : Peer 3 i j
@@ -103,13 +103,13 @@ module _ (c : Config) (w : wellMade c ≡ true) (u : Rules c) where
           kind-small = omega arith;
           peer-small = sent-peer .peer-small;
           peer-fits = sent-peer .peer-fits;
-          peer-known = λ g x. rw (lt-ltb j (c .n) (u .inside i j ij), has-link c j i (u .both-ways i j ij));
+          peer-known = λ g x b. rw (lt-ltb j (c .n) (u .inside i j ij), has-link c j i (u .both-ways i j ij));
         }
 
-  in-range : (k i j g : ℕ) (x : Station vector) → Peer k i j → isStation c i ≡ true → stationFits c i x ≡ true → registerFits g ≡ true
-      → 1 ≤ getD (x .time) i 0 → InRange c (entryOf {K = vector} k i j g x)
+  in-range : (k i j g : ℕ) (x : Station vector) (b : ℕ) → Peer k i j → isStation c i ≡ true → stationFits c i x ≡ true → registerFits g ≡ true
+      → 1 ≤ getD (x .time) i 0 → InRange c (entryOf {K = vector} k i j g x b)
   unfolding recordFits recordKnown
-  in-range k i j g x p si f r o =
+  in-range k i j g x b p si f r o =
       let s = station-facts c i x si f in
       let n : i < c .n = station-below c i si in
       let m : c .n ≤ 8 = u .small in
@@ -127,9 +127,9 @@ module _ (c : Config) (w : wellMade c ≡ true) (u : Rules c) where
           phase = omega arith;
           register = omega arith;
           eight = e;
-          counts = below-of 65536 (x .time) (λ (d : ℕ) (b : d < length (x .time)). let q = counts-small c (c .t) (x .time) (s .0) d (omega arith) in omega arith);
+          counts = below-of 65536 (x .time) (λ (d : ℕ) (y : d < length (x .time)). let q = counts-small c (c .t) (x .time) (s .0) d (omega arith) in omega arith);
         };
-        known = rw (lt-ltb i (c .n) n, p .peer-known g x, counts-known c (x .time) (s .0));
+        known = rw (lt-ltb i (c .n) n, p .peer-known g x b, counts-known c (x .time) (s .0));
       }
 
   -- ---- a step from a well-formed state
@@ -148,11 +148,11 @@ module _ (c : Config) (w : wellMade c ≡ true) (u : Rules c) where
         of-step c s Ranged
         (record {
           refusal = λ p k f z e q. clash (cc);
-          own = λ i g si l b f z e q. of-entry _ e (in-range 1 i 255 g (entered i (stationAt s i)) (own-peer i) si (rw station-set at (f .station i (below-8 i si))) z
+          own = λ i g si l b f z e q. of-entry _ e (in-range 1 i 255 g (entered i (stationAt s i)) 0 (own-peer i) si (rw station-set at (f .station i (below-8 i si))) z
               (let o = put-same 0 (stationAt s i .time) i (suc (getD (stationAt s i .time) i 0)) in omega arith)) q;
-          sent = λ i j g si ij m l b f z e q. of-entry _ e (in-range 2 i j g (sending i j (stationAt s i)) (sent-peer i j ij) si (rw (station-set-link, station-set) at (f .station i (below-8 i si))) z
+          sent = λ i j g si ij m l b f z e q. of-entry _ e (in-range 2 i j g (sending i j (stationAt s i)) 0 (sent-peer i j ij) si (rw (station-set-link, station-set) at (f .station i (below-8 i si))) z
               (let o = put-same 0 (stationAt s i .time) i (suc (getD (stationAt s i .time) i 0)) in omega arith)) q;
-          received = λ i j v g r si ij d b f z e q. of-entry _ e (in-range 3 i j g (receiving i j v (stationAt s i)) (received-peer i j ij) si (rw (station-set-link, station-set) at (f .station i (below-8 i si)))
+          received = λ i j v g r si ij d b f z e q. of-entry _ e (in-range 3 i j g (receiving i j v (stationAt s i)) _ (received-peer i j ij) si (rw (station-set-link, station-set) at (f .station i (below-8 i si)))
               (first-fits c j i v g r (rw d at (h .link j i (let n = u .inside i j ij in let m = u .small in omega arith) (below-8 i si))))
               (let o = put-same 0 (merged (stationAt s i .time) v) i (suc (getD (stationAt s i .time) i 0)) in omega arith)) q;
           req = λ i j r si ij d b f z e q. clash (cc);

@@ -13,7 +13,7 @@ modeCode normal = Normal
 modeCode mute = Mute
 modeCode standBy = StandBy
 
--- the record of an accepted entry
+-- the record of an accepted entry; its news is not in it
 abbrev pub eventRecord : Entry → Record
 eventRecord e = record { kind = e .kind; station = e .station; peer = e .peer; phase = e .phase; register = e .register; counts = e .counts }
 
@@ -21,8 +21,8 @@ eventRecord e = record { kind = e .kind; station = e .station; peer = e .peer; p
 abbrev pub noRecord : Record
 noRecord = record { kind = 0; station = 0; peer = 0; phase = 0; register = 0; counts = replicate 8 0 }
 
--- a refusal with its number; an entry with its record; mode and phase after
+-- a refusal with its number; an entry with its news and its record; mode and phase after
 abbrev pub steppedOf : Answer → Stepped
 steppedOf (refused k) = record { answer = Refused k; event = noRecord }
-steppedOf (entry e) = record { answer = Entered; event = eventRecord e }
+steppedOf (entry e) = record { answer = Entered (e .news); event = eventRecord e }
 steppedOf (modeAfter i m p) = record { answer = InMode (modeCode m) p; event = noRecord }

@@ -5,7 +5,7 @@ use record::Record;
 use station::Mode;
 use station::Station;
 
-// Kinds of entries, and the peer of an own entry.
+// Kinds of entries, the peer of an own entry, and the news of entries that are no receipts.
 pub const OWN: u8 = 1;
 
 pub const SENT: u8 = 2;
@@ -14,10 +14,12 @@ pub const RECEIVED: u8 = 3;
 
 pub const NO_PEER: u8 = 255;
 
-// A refusal's number; an accepted entry; the mode and phase after.
+pub const NO_NEWS: u8 = 0;
+
+// A refusal's number; an accepted entry, with the news of a receipt and else 0; the mode and phase after.
 pub enum Answer {
     Refused(u8),
-    Entered,
+    Entered { news: u8 },
     InMode { mode: Mode, phase: u32 },
 }
 
@@ -50,12 +52,12 @@ pub fn refused(number: u8) -> Stepped
 }
 
 // The answer of an accepted entry, whose station's record is x after the step.
-pub fn entry(kind: u8, station: u8, peer: u8, register: u32, x: Station) -> Stepped
-    ensures { λ r. ⌜ r ≡ record { answer = Answer.Entered; event = record { kind = kind; station = station; peer = peer; phase = x .phase; register = register; counts = x .counts } } ⌝ }
+pub fn entry(kind: u8, station: u8, peer: u8, register: u32, x: Station, news: u8) -> Stepped
+    ensures { λ r. ⌜ r ≡ record { answer = Answer.Entered news; event = record { kind = kind; station = station; peer = peer; phase = x .phase; register = register; counts = x .counts } } ⌝ }
 {
     let counts = x.counts;
     Stepped {
-        answer: Answer::Entered,
+        answer: Answer::Entered { news },
         event: Record {
             kind,
             station,

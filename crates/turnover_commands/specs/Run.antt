@@ -5,10 +5,10 @@ use mathlib.Core.List.{List, []}
 use mathlib.Core.Bool.{Bool, true, false, cond}
 use lib.Dec.{eqb}
 use Rattle.turnover_output.specs.TextAt.{TextAt}
-use Rattle.turnover_output.specs.Answer.{entryText, modeText, refusedText, setupText, badText, longest}
+use Rattle.turnover_output.specs.Answer.{entryText, receiptText, modeText, refusedText, setupText, badText, longest}
 use Rattle.turnover_input.specs.declared.command.Command.{Command}
 use Rattle.turnover_input.specs.declared.command.Command.the-variants.{Net, Allow, Link, Enter, Send, Recv, Start, Bad}
-use Rattle.reset.specs.Steps.{enter, send, recv, start, Answer, refused, entry, modeAfter}
+use Rattle.reset.specs.Steps.{enter, send, recv, start, isReceipt, Answer, refused, entry, modeAfter}
 use Rattle.station.specs.Image.{modeByte}
 use Rattle.area.specs.Layout.{test}
 use Rattle.area_calls.specs.Calls.{AreaStep, stepOn}
@@ -45,10 +45,11 @@ abbrev pub badLine : Standing → Telling
 badLine s = record { after = s; text = badText }
 
 -- ---- steps
--- the line of a step of station i in a network of n: an entry's phase, station and n counts; the phase, station and mode; a refusal
+-- the line of a step of station i in a network of n: an entry's phase, station and n counts, and a receipt's news; the phase, station and mode; a
+-- refusal
 abbrev pub stepText : ℕ → ℕ → ℕ → Answer → List ℕ
 stepText number i n (refused k) = refusedText number k
-stepText number i n (entry e) = entryText number (e .phase) i (e .counts) n
+stepText number i n (entry e) = cond (isReceipt e) (receiptText number (e .phase) i (e .counts) n (e .news)) (entryText number (e .phase) i (e .counts) n)
 stepText number i n (modeAfter j m p) = modeText number p i (modeByte m)
 
 -- the greatest number that a step can have: a run that needs one more ends
@@ -142,7 +143,7 @@ isEnded Ended = true
 -- the line of a step, by its answer as the code has it
 abbrev pub codeText : ℕ → ℕ → ℕ → Record → CodeAnswer → List ℕ
 codeText number i n e (Refused k) = refusedText number k
-codeText number i n e Entered = entryText number (e .phase) i (e .counts) n
+codeText number i n e (Entered b) = cond (eqb (e .kind) 3) (receiptText number (e .phase) i (e .counts) n b) (entryText number (e .phase) i (e .counts) n)
 codeText number i n e (InMode m p) = modeText number p i (modeByte (modeView m))
 
 -- ---- what the calls promise

@@ -1,4 +1,5 @@
 // A run of turnover, command by command: the settings before setup, the steps after it, and the line that each command prints.
+use step_parts::answer;
 use step_parts::answer::Answer;
 use step_parts::answer::Stepped;
 use turnover_input::command::Command;
@@ -74,15 +75,21 @@ fn answered(out: &mut [u8], at: usize, number: u64, station: u8, n: u8, s: Stepp
     let a = s.answer;
     match a {
         Answer::Refused(refusal) => turnover_output::answer::refused(out, at, number, refusal),
-        Answer::Entered => turnover_output::answer::entry(
-            out,
-            at,
-            number,
-            phase,
-            station,
-            counts,
-            n,
-        ),
+        Answer::Entered { news } => {
+            if event.kind == answer::RECEIVED {
+                return turnover_output::answer::receipt(
+                    out,
+                    at,
+                    number,
+                    phase,
+                    station,
+                    counts,
+                    n,
+                    news,
+                );
+            }
+            turnover_output::answer::entry(out, at, number, phase, station, counts, n)
+        }
         Answer::InMode { mode, phase } => {
             turnover_output::answer::mode(out, at, number, phase, station, station::mode_byte(mode))
         }

@@ -17,7 +17,7 @@ use Rattle.turnover_input.specs.declared.command.Command.{Command}
 use Rattle.turnover_input.specs.declared.command.Command.the-variants.{Enter, Send, Recv, Start}
 use Rattle.turnover_input.specs.Parse.{startsWith, parseOf}
 use Rattle.turnover_input.specs.Lines.{splitFrom, linesOf}
-use Rattle.turnover_output.specs.Answer.{opening, entryText, modeWord, modeText, refusedText}
+use Rattle.turnover_output.specs.Answer.{opening, entered, entryText, receiptText, modeWord, modeText, refusedText}
 use Rattle.reset.specs.Config.{Config, wellMade, networkRules}
 use Rattle.reset.specs.Clock.{vector}
 use Rattle.reset.specs.State.{State}
@@ -155,7 +155,7 @@ first-step =
     (rw (accepted .1) at (set-up pair block table-is block-long (accepted .0))) (enter 0 501))
 
 computed : printed 0 pair (initial vector pair) listing ≡ listingOutput
-unfolding lines entryText modeText refusedText opening modeWord decimal decimalIn
+unfolding lines entered entryText receiptText modeText refusedText opening modeWord decimal decimalIn
 computed = refl
 
 pub whole-listing : turnover listingInput ≡ listingOutput

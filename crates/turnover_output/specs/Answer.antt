@@ -11,9 +11,17 @@ use Rattle.decimal.specs.Decimal.{decimal, spaced, parted}
 unfoldable pub opening : ℕ → List ℕ → ℕ → ℕ → List ℕ
 opening number word phase station = decimal number ++ word ++ parted (phase ∷ station ∷ [])
 
--- an accepted entry, with the counts of the n stations
+-- an accepted entry up to its counts, those of the n stations
+unfoldable pub entered : ℕ → ℕ → ℕ → List ℕ → ℕ → List ℕ
+entered number phase station counts n = opening number (ascii " entry ") phase station ++ spaced (take n counts)
+
+-- an accepted entry that is no receipt
 unfoldable pub entryText : ℕ → ℕ → ℕ → List ℕ → ℕ → List ℕ
-entryText number phase station counts n = opening number (ascii " entry ") phase station ++ spaced (take n counts) ++ ascii "\n"
+entryText number phase station counts n = entered number phase station counts n ++ ascii "\n"
+
+-- a receipt, with its news behind the counts
+unfoldable pub receiptText : ℕ → ℕ → ℕ → List ℕ → ℕ → ℕ → List ℕ
+receiptText number phase station counts n news = entered number phase station counts n ++ ascii " " ++ decimal news ++ ascii "\n"
 
 -- the modes are numbered: 0 normal, 1 mute, 2 stand-by
 unfoldable pub modeWord : ℕ → List ℕ
@@ -44,10 +52,14 @@ longestNumbers = 34
 abbrev pub longestCounts : ℕ
 longestCounts = 48
 
+-- a space and a number of 3 digits
+abbrev pub longestNews : ℕ
+longestNews = 4
+
 -- `stand-by`
 abbrev pub longestMode : ℕ
 longestMode = 8
 
--- no line is longer: an entry's numbers, ` entry `, its counts and the line feed
+-- no line is longer: a receipt's numbers, ` entry `, its counts, its news and the line feed
 abbrev pub longest : ℕ
-longest = longestNumbers + 7 + longestCounts + 1
+longest = longestNumbers + 7 + longestCounts + longestNews + 1

@@ -4,10 +4,10 @@ ghost use Prim.Native.Nat.{_+_, _<_, _≤_};
 ghost use lib.ListN.{length, take};
 ghost use Rattle.decimal.specs.Decimal.{spaced};
 ghost use Rattle.turnover_output.specs.TextAt.{TextAt};
-ghost use Rattle.turnover_output.specs.Answer.{opening as Opening, modeWord, entryText, modeText, refusedText, setupText, badText, longestNumbers, longestCounts, longestMode, longest};
+ghost use Rattle.turnover_output.specs.Answer.{opening as Opening, modeWord, entered as Entered, entryText, receiptText, modeText, refusedText, setupText, badText, longestNumbers, longestCounts, longestNews, longestMode, longest};
 
 // No line is longer.
-pub const LONGEST: usize = 90;
+pub const LONGEST: usize = 94;
 
 fn wide(x: u16) -> u64
     ensures { λ r. ⌜ (r ≡ x) × (r < 65536) ⌝ }
@@ -45,7 +45,25 @@ fn counted(out: &mut [u8], at: usize, counts: [u16; 8], n: u8) -> usize
     end
 }
 
-// An accepted entry.
+// An accepted entry, up to its counts.
+fn entered(
+    out: &mut [u8],
+    at: usize,
+    number: u64,
+    phase: u32,
+    station: u8,
+    counts: [u16; 8],
+    n: u8,
+) -> usize
+    requires { ⌜ at + longest ≤ length (now out) ⌝ }
+    ensures { λ r. ⌜ TextAt (now (out .entry)) at (Entered number phase station counts n) r (now (out .exit)) ⌝ }
+    ensures { λ r. ⌜ r + longestNews + 1 ≤ at + longest ⌝ }
+{
+    let a = opening(out, at, number, b" entry ", phase, station);
+    counted(out, a, counts, n)
+}
+
+// An accepted entry that is no receipt.
 pub fn entry(
     out: &mut [u8],
     at: usize,
@@ -59,9 +77,29 @@ pub fn entry(
     ensures { λ r. ⌜ TextAt (now (out .entry)) at (entryText number phase station counts n) r (now (out .exit)) ⌝ }
     ensures { λ r. ⌜ r ≤ at + longest ⌝ }
 {
-    let a = opening(out, at, number, b" entry ", phase, station);
-    let b = counted(out, a, counts, n);
-    crate::text::word(out, b, b"\n")
+    let a = entered(out, at, number, phase, station, counts, n);
+    crate::text::word(out, a, b"\n")
+}
+
+// A receipt, with its news.
+pub fn receipt(
+    out: &mut [u8],
+    at: usize,
+    number: u64,
+    phase: u32,
+    station: u8,
+    counts: [u16; 8],
+    n: u8,
+    news: u8,
+) -> usize
+    requires { ⌜ at + longest ≤ length (now out) ⌝ }
+    ensures { λ r. ⌜ TextAt (now (out .entry)) at (receiptText number phase station counts n news) r (now (out .exit)) ⌝ }
+    ensures { λ r. ⌜ r ≤ at + longest ⌝ }
+{
+    let a = entered(out, at, number, phase, station, counts, n);
+    let b = crate::text::word(out, a, b" ");
+    let c = crate::text::number(out, b, news as u64);
+    crate::text::word(out, c, b"\n")
 }
 
 fn mode_word(out: &mut [u8], at: usize, mode: u8) -> usize

@@ -88,7 +88,8 @@ pub fn judged(result: Result<Verdict, Refusal>) -> u64 {
 pub fn stepped(outcome: &Outcome) -> u64 {
     match *outcome {
         Err(cause) => refusal(cause),
-        Ok(Answer::Entry(_)) => 100,
+        Ok(Answer::Entry { news: None, .. }) => 100,
+        Ok(Answer::Entry { news: Some(n), .. }) => 100 + u64::from(n),
         Ok(Answer::Mode { mode, phase }) => {
             let mode = match mode {
                 Mode::Normal => 0,

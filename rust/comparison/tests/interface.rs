@@ -3,12 +3,12 @@
 use comparison::{cases, in_32_bits};
 use melontime::{
     archive_bytes, Archive, EntriesBlock, Header, InMode, Kind, Mode, Network, NetworkMut, Outcome,
-    Record, Refusal, Verdict, AREA,
+    Receipt, Record, Refusal, Verdict, AREA,
 };
 use reference::area;
 use reference::generate::{
-    any_archive, any_network, any_ranged_header, any_state, mutated_archive, next_step,
-    rule_breaker, Habits, RuleBreak,
+    any_archive, any_network, any_ranged_header, any_state, mutated_archive, network, next_step,
+    rule_breaker, state_with_news, Habits, NetworkWish, RuleBreak,
 };
 use reference::network::{Answer, State, Step};
 use reference::random::Rng;
@@ -26,19 +26,39 @@ fn refusal_of(refusal: reference::refusal::Refusal) -> Refusal {
     Refusal::from_number(u64::from(refusal.number())).expect("a refusal's number")
 }
 
-fn outcome_of(answer: Answer) -> Outcome {
+fn record_of(record: reference::record::Record) -> Record {
+    Record::from_bytes(&record.to_bytes()).expect("a record")
+}
+
+fn mode_of(mode: reference::network::Mode) -> Mode {
+    match mode {
+        reference::network::Mode::Normal => Mode::Normal,
+        reference::network::Mode::Mute => Mode::Mute,
+        reference::network::Mode::StandBy => Mode::StandBy,
+    }
+}
+
+/// What a step comes to: an own entry or a send to a record alone.
+#[derive(Debug, PartialEq)]
+enum Taken {
+    Entry(Record),
+    Outcome(Outcome),
+}
+
+fn taken_of(answer: Answer) -> Taken {
     match answer {
-        Answer::Entry(record) => {
-            Outcome::Entry(Record::from_bytes(&record.to_bytes()).expect("a record"))
+        Answer::Entry { record, news: None } => Taken::Entry(record_of(record)),
+        Answer::Entry {
+            record,
+            news: Some(news),
+        } => {
+            let record = record_of(record);
+            Taken::Outcome(Outcome::Entry(Receipt { record, news }))
         }
-        Answer::Mode { mode, phase } => Outcome::Control(InMode {
-            mode: match mode {
-                reference::network::Mode::Normal => Mode::Normal,
-                reference::network::Mode::Mute => Mode::Mute,
-                reference::network::Mode::StandBy => Mode::StandBy,
-            },
-            phase,
-        }),
+        Answer::Mode { mode, phase } => {
+            let mode = mode_of(mode);
+            Taken::Outcome(Outcome::Control(InMode { mode, phase }))
+        }
     }
 }
 
@@ -52,10 +72,10 @@ fn verdict_of(verdict: reference::order::Verdict) -> Verdict {
 }
 
 /// A step, whichever bytes the network stands in.
-fn take(mut network: NetworkMut, step: Step) -> Result<Outcome, Refusal> {
+fn take(mut network: NetworkMut, step: Step) -> Result<Taken, Refusal> {
     match step {
         Step::Enter { station, register } => {
-            network.enter(station as u32, register).map(Outcome::Entry)
+            network.enter(station as u32, register).map(Taken::Entry)
         }
         Step::Send {
             station,
@@ -63,9 +83,14 @@ fn take(mut network: NetworkMut, step: Step) -> Result<Outcome, Refusal> {
             register,
         } => network
             .send(station as u32, peer as u32, register)
-            .map(Outcome::Entry),
-        Step::Recv { station, peer } => network.recv(station as u32, peer as u32),
-        Step::Start { station } => network.start(station as u32).map(Outcome::Control),
+            .map(Taken::Entry),
+        Step::Recv { station, peer } => network
+            .recv(station as u32, peer as u32)
+            .map(Taken::Outcome),
+        Step::Start { station } => {
+            let after = network.start(station as u32);
+            after.map(Outcome::Control).map(Taken::Outcome)
+        }
     }
 }
 
@@ -83,12 +108,12 @@ fn run(rng: &mut Rng, header: &reference::header::Header) -> Vec<reference::reco
         }
         let step = in_32_bits(next_step(rng, &state, &habits));
         let answer = state.step(step);
-        let expected = answer.map(outcome_of).map_err(refusal_of);
+        let expected = answer.map(taken_of).map_err(refusal_of);
         assert_eq!(take(network.lend(), step), expected, "{step:?}");
         assert_eq!(take(lent.lend(), step), expected, "{step:?}");
         assert_eq!(Ok(network.is_quiescent()), state.rest());
         assert_eq!(Ok(lent.is_quiescent()), state.rest());
-        if let Ok(Answer::Entry(record)) = answer {
+        if let Ok(Answer::Entry { record, .. }) = answer {
             records.push(record);
         }
     }
@@ -98,6 +123,38 @@ fn run(rng: &mut Rng, header: &reference::header::Header) -> Vec<reference::reco
     let stored = Network::from_bytes(network.as_bytes()).expect("an image");
     assert!(stored == network);
     records
+}
+
+/// A message that is made to raise a number of counts has that news, each from
+/// 0 to 7.
+#[test]
+fn news_of_receipts() {
+    cases("news_of_receipts", 60, |rng| {
+        let wish = NetworkWish {
+            fewest: 8,
+            ..NetworkWish::default()
+        };
+        let header = network(rng, wish);
+        let station = rng.index(8);
+        let neighbours: Vec<usize> = header.neighbours(station).collect();
+        for news in 0..8 {
+            let peer = rng.pick(&neighbours);
+            let mut state = state_with_news(rng, &header, station, peer, news.into());
+            let mut area = area::image(&state);
+            let step = Step::Recv { station, peer };
+            let expected = state.step(step).map(taken_of).map_err(refusal_of);
+            let lent = NetworkMut::open(&mut area).expect("an image");
+            let taken = take(lent, step);
+            assert_eq!(taken, expected);
+            let Ok(Taken::Outcome(Outcome::Entry(receipt))) = taken else {
+                panic!("{taken:?} is no receipt of a message");
+            };
+            assert_eq!(
+                (receipt.news, receipt.record.kind()),
+                (news, Kind::Received)
+            );
+        }
+    });
 }
 
 /// Bytes as a network, of its own and in lent bytes, by both.

@@ -7,8 +7,8 @@ use reference::area;
 use reference::check::seal;
 use reference::generate::{
     any_network, any_ranged_header, any_state, damaged_header_block, ill_formed_state, network,
-    next_step, rule_breaker, wild_step, Habits, HeaderDamage, NetworkWish, RuleBreak, Shape,
-    StateDamage,
+    next_step, rule_breaker, state_with_news, wild_step, Habits, HeaderDamage, NetworkWish,
+    RuleBreak, Shape, StateDamage, Traffic,
 };
 use reference::header::Header;
 use reference::in_place;
@@ -76,27 +76,57 @@ fn damage(rng: &mut Rng, bytes: &mut [u8]) {
     }
 }
 
-/// Runs a list of steps from setup on, comparing at each.
+/// How many counts of other stations differ between station i in an area and a
+/// record's bytes.
+fn changed_counts(bytes: &[u8], i: usize, event: &[u8]) -> u64 {
+    let counts = &bytes[area::station_at(i)..][..16];
+    let pairs = counts.chunks(2).zip(event[16..].chunks(2)).enumerate();
+    let changed = pairs.filter(|&(k, (before, after))| k != i && before != after);
+    changed.count() as u64
+}
+
+/// Runs a list of steps from setup on, by habits that change now and then.
 fn run(rng: &mut Rng, header: &Header, length: usize) {
+    let mut habits = Habits::any(rng);
+    let next = |rng: &mut Rng, state: &State| {
+        if rng.chance(1, 24) {
+            habits = Habits::any(rng);
+        }
+        next_step(rng, state, &habits)
+    };
+    run_by(rng, header, length, next);
+}
+
+/// Runs a list of steps from setup on, comparing at each. Answers how many
+/// receipts brought each number of news.
+fn run_by(
+    rng: &mut Rng,
+    header: &Header,
+    length: usize,
+    mut next: impl FnMut(&mut Rng, &State) -> Step,
+) -> [u64; 8] {
     let block = header.to_block().expect("fields in their ranges");
     let mut bytes = vec![rng.next_u64() as u8; AREA];
     assert_eq!(raw::setup(&block, &mut bytes), 0);
     let mut state = State::initial(header).expect("a network");
     assert!(bytes == area::image(&state), "the initial area");
-    let mut habits = Habits::any(rng);
     let mut image = bytes.clone();
+    let mut told = [0; 8];
     for _ in 0..length {
-        if rng.chance(1, 24) {
-            habits = Habits::any(rng);
-        }
-        let step = in_32_bits(next_step(rng, &state, &habits));
+        let step = in_32_bits(next(rng, &state));
         let mut event = EVENT;
         let answer = library_step(&mut bytes, &mut event, step);
         let outcome = state.step(step);
         assert_eq!(answer, stepped(&outcome), "{step:?}");
         match outcome {
-            Ok(Answer::Entry(record)) => assert_eq!(event, record.to_bytes(), "{step:?}"),
+            Ok(Answer::Entry { record, .. }) => assert_eq!(event, record.to_bytes(), "{step:?}"),
             _ => assert_eq!(event, EVENT, "{step:?} is to leave the record area"),
+        }
+        // The image is still that of the state before the step.
+        if let (Step::Recv { station, .. }, 100..=107) = (step, answer) {
+            let news = changed_counts(&image, station, &event);
+            assert_eq!(answer, 100 + news, "{step:?}");
+            told[news as usize] += 1;
         }
         area::write(&state, &mut image);
         assert!(bytes == image, "the area after {step:?}");
@@ -107,6 +137,7 @@ fn run(rng: &mut Rng, header: &Header, length: usize) {
             compare_calls(rng, &damaged);
         }
     }
+    told
 }
 
 #[test]
@@ -132,6 +163,102 @@ fn lists_on_every_shape() {
             }
         }
     });
+}
+
+/// A header of eight stations in a shape.
+fn header_of_eight(rng: &mut Rng, shape: Shape) -> Header {
+    let wish = NetworkWish {
+        shape: Some(shape),
+        fewest: 8,
+        ..NetworkWish::default()
+    };
+    network(rng, wish)
+}
+
+/// Uneven traffic between eight stations from setup on, in which messages are
+/// overtaken, and raise many counts at once.
+fn run_traffic(rng: &mut Rng, shape: Shape) -> [u64; 8] {
+    let header = header_of_eight(rng, shape);
+    let traffic = Traffic::any(rng, &header);
+    run_by(rng, &header, 600, |rng, state| {
+        traffic.next_step(rng, state)
+    })
+}
+
+#[test]
+fn traffic_of_eight_stations() {
+    cases("traffic_of_eight_stations", 60, |rng| {
+        let shape = rng.pick(&Shape::ALL);
+        run_traffic(rng, shape);
+    });
+}
+
+/// From setup on, receipts bring all news from 0 to 7.
+#[test]
+fn every_number_of_news_is_met() {
+    let mut rng = Rng::new(1);
+    let mut told = [0; 8];
+    for shape in Shape::ALL.repeat(10) {
+        let more = run_traffic(&mut rng, shape);
+        told = std::array::from_fn(|news| told[news] + more[news]);
+    }
+    println!("every_number_of_news_is_met: receipts by their news {told:?}");
+    assert!(told.iter().all(|&receipts| receipts > 0), "{told:?}");
+}
+
+/// Messages with counts by hand, on states that no initial network reaches:
+/// each number from 0 to 7 by the library, the reference and the version in
+/// place, and no other than the one that the message was made for.
+#[test]
+fn news_of_hand_made_messages() {
+    cases("news_of_hand_made_messages", 150, |rng| {
+        let shape = rng.pick(&Shape::ALL);
+        let header = header_of_eight(rng, shape);
+        let (station, mut numbers) = (rng.index(8), Vec::new());
+        let neighbours: Vec<usize> = header.neighbours(station).collect();
+        for news in 0..8 {
+            let peer = rng.pick(&neighbours);
+            let state = state_with_news(rng, &header, station, peer, news);
+            let step = Step::Recv { station, peer };
+            let mut bytes = area::image(&state);
+            compare_step(&bytes, step);
+            let mut event = EVENT;
+            let placed = in_place::step(&mut bytes.clone(), &mut event.clone(), step);
+            let plain = area::step(&mut bytes.clone(), &mut event.clone(), step);
+            let ours = library_step(&mut bytes, &mut event, step);
+            numbers.push([ours, stepped(&plain), stepped(&placed)]);
+            // The own count goes up by one, whatever the message has there.
+            let own = state.stations[station].counts[station] + 1;
+            assert_eq!(event[16 + 2 * station..][..2], own.to_le_bytes());
+        }
+        let right: Vec<[u64; 3]> = (100..108).map(|number| [number; 3]).collect();
+        assert_eq!(numbers, right);
+    });
+}
+
+/// The library alone, by hand: a first message, one that is sent on, and one
+/// that has been overtaken.
+#[test]
+fn news_by_hand() {
+    let mut header = Header::new(3, 8);
+    for (i, j) in [(0, 1), (0, 2), (1, 2)] {
+        (header.limits[i][j], header.limits[j][i]) = (2, 2);
+    }
+    let mut bytes = vec![0; AREA];
+    assert_eq!(raw::setup(&header.to_block_untested(), &mut bytes), 0);
+    let mut event = EVENT;
+    assert_eq!(raw::send(&mut bytes, &mut event, 1, 0, 7), 100);
+    assert_eq!(raw::send(&mut bytes, &mut event, 1, 2, 8), 100);
+    assert_eq!(raw::recv(&mut bytes, &mut event, 2, 1), 101);
+    assert_eq!(raw::send(&mut bytes, &mut event, 2, 0, 9), 100);
+    assert_eq!(raw::recv(&mut bytes, &mut event, 0, 2), 102);
+    assert_eq!(event[16..22], [1, 0, 2, 0, 2, 0]);
+    assert_eq!(raw::recv(&mut bytes, &mut event, 0, 1), 100);
+    assert_eq!(event[16..22], [2, 0, 2, 0, 2, 0]);
+    assert_eq!(event[..12], [3, 0, 1, 0, 0, 0, 0, 0, 7, 0, 0, 0]);
+    // The mode and phase after a control item are as before.
+    assert_eq!(raw::start(&mut bytes, &mut event, 1), 1001);
+    assert_eq!(raw::recv(&mut bytes, &mut event, 0, 1), 1001);
 }
 
 #[test]
@@ -441,12 +568,12 @@ fn order_of_refusals() {
     assert_eq!(ask(&state, start(0)), 1000 + 4 * 999_998 + 1);
 }
 
-/// Every refusal of the steps is met, so that none goes uncompared.
+/// Every number of the steps is met, so that none goes uncompared.
 #[test]
 fn every_answer_is_met() {
     let mut met = std::collections::BTreeSet::new();
     let mut rng = Rng::new(1);
-    for _ in 0..400 {
+    for _ in 0..2_000 {
         let state = any_state(&mut rng);
         let mut bytes = area::image(&state);
         if rng.chance(1, 20) {
@@ -469,6 +596,7 @@ fn every_answer_is_met() {
             });
         }
     }
-    let all = [2, 4, 5, 6, 7, 8, 9, 11, 100, 1000, 1001, 1002];
-    assert_eq!(met.into_iter().collect::<Vec<u64>>(), all);
+    let refusals = [2, 4, 5, 6, 7, 8, 9, 11];
+    let all = refusals.into_iter().chain(100..=107).chain(1000..=1002);
+    assert!(met.iter().copied().eq(all), "{met:?}");
 }

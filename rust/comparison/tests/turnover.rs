@@ -134,6 +134,41 @@ fn sends_up_to_the_limit() {
     }
 }
 
+/// A message that is sent on along a path of stations, in any order of them:
+/// each receipt is news of one station more. What the first sent straight to the
+/// last, which takes it behind all that, is no news.
+#[test]
+fn news_along_a_path() {
+    let program = program();
+    cases("news_along_a_path", 40, |rng| {
+        let n = rng.range(3, 8) as usize;
+        let mut path: Vec<usize> = (0..n).collect();
+        rng.shuffle(&mut path);
+        let (first, last) = (path[0], path[n - 1]);
+        let mut input = format!("net {n} 20\nlink {first} {last} 2\n");
+        for pair in path.windows(2) {
+            input += &format!("link {} {} 2\n", pair[0], pair[1]);
+        }
+        input += &format!("send {first} {last} 1\n");
+        for pair in path.windows(2) {
+            let (from, to) = (pair[0], pair[1]);
+            input += &format!("send {from} {to} 2\nrecv {to} {from}\n");
+        }
+        input += &format!("recv {last} {first}\n");
+        compare(&program, input.as_bytes());
+        let printed = String::from_utf8(run(&program, input.as_bytes())).expect("a text");
+        // A number, "entry", phase, station and n counts stand before it.
+        let news = |line: &str| line.split(' ').nth(4 + n).map(str::to_owned);
+        let printed: Vec<Option<String>> = printed.lines().map(news).collect();
+        let mut right = vec![None];
+        for news in 1..n {
+            right.extend([None, Some(news.to_string())]);
+        }
+        right.push(Some("0".into()));
+        assert_eq!(printed, right, "{input}");
+    });
+}
+
 #[test]
 fn odd_inputs() {
     let program = program();

@@ -4,8 +4,9 @@
 //! stations pass their messages to each other over streams of their own; what
 //! the network's links hold tells them when one is theirs to take. Each does a
 //! fixed amount of work, more than its allowance of a phase, so that resets
-//! happen along the way. In the end the accepted records are written to an
-//! archive, which is read back, tested and questioned.
+//! happen along the way, and counts the receipts that told it something. In the
+//! end the accepted records are written to an archive, which is read back,
+//! tested and questioned.
 //!
 //!     cargo run --release --offline -p melontime --example register
 
@@ -19,7 +20,8 @@ use std::time::{Duration, Instant};
 use std::{env, fs, process};
 
 use melontime::{
-    archive_bytes, Archive, Header, InMode, Kind, Mode, Network, Outcome, Record, Refusal, Verdict,
+    archive_bytes, Archive, Header, InMode, Kind, Mode, Network, Outcome, Receipt, Record, Refusal,
+    Verdict,
 };
 
 const STATIONS: u32 = 4;
@@ -52,8 +54,9 @@ enum Request {
     Send(u32, u32),
     Recv(u32),
     Start,
-    /// The station's work is done, and every message for it has come.
-    Finished,
+    /// The station's work is done, and every message for it has come; so many
+    /// of them told it something.
+    Finished(u32),
     /// Whether all have finished and the network is quiescent.
     Over,
 }
@@ -65,7 +68,7 @@ impl Request {
             Request::Send(peer, register) => (b's', peer, register),
             Request::Recv(peer) => (b'r', peer, 0),
             Request::Start => (b't', 0, 0),
-            Request::Finished => (b'f', 0, 0),
+            Request::Finished(told) => (b'f', told, 0),
             Request::Over => (b'o', 0, 0),
         };
         let mut bytes = [letter; 9];
@@ -82,18 +85,19 @@ impl Request {
             b's' => Some(Request::Send(a, b)),
             b'r' => Some(Request::Recv(a)),
             b't' => Some(Request::Start),
-            b'f' => Some(Request::Finished),
+            b'f' => Some(Request::Finished(a)),
             b'o' => Some(Request::Over),
             _ => None,
         }
     }
 }
 
-/// A reply, 33 bytes: a letter and what belongs to it.
+/// A reply, 34 bytes: a letter and what belongs to it.
 #[derive(Clone, Copy)]
 enum Reply {
     Refused(Refusal),
     Entry(Record),
+    Receipt(Receipt),
     Control(InMode),
     Is(bool),
 }
@@ -101,19 +105,24 @@ enum Reply {
 impl Reply {
     fn of(outcome: Outcome) -> Reply {
         match outcome {
-            Outcome::Entry(record) => Reply::Entry(record),
+            Outcome::Entry(receipt) => Reply::Receipt(receipt),
             Outcome::Control(after) => Reply::Control(after),
             other => panic!("an outcome that this program does not know: {other:?}"),
         }
     }
 
-    fn to_bytes(self) -> [u8; 33] {
-        let mut bytes = [0; 33];
+    fn to_bytes(self) -> [u8; 34] {
+        let mut bytes = [0; 34];
         match self {
             Reply::Refused(refusal) => bytes[..2].copy_from_slice(&[b'n', refusal.number()]),
             Reply::Entry(record) => {
                 bytes[0] = b'e';
-                bytes[1..].copy_from_slice(record.as_bytes());
+                bytes[1..33].copy_from_slice(record.as_bytes());
+            }
+            Reply::Receipt(Receipt { record, news }) => {
+                bytes[0] = b'r';
+                bytes[1..33].copy_from_slice(record.as_bytes());
+                bytes[33] = news;
             }
             Reply::Control(InMode { mode, phase }) => {
                 bytes[..2].copy_from_slice(&[b'm', mode as u8]);
@@ -124,12 +133,15 @@ impl Reply {
         bytes
     }
 
-    fn from_bytes(bytes: [u8; 33]) -> Option<Reply> {
+    fn from_bytes(bytes: [u8; 34]) -> Option<Reply> {
         let phase = u32::from_le_bytes(bytes[2..6].try_into().ok()?);
         let control = |mode| Some(Reply::Control(InMode { mode, phase }));
+        let record = || Record::try_from(&bytes[1..33]).ok();
+        let news = bytes[33];
         match (bytes[0], bytes[1]) {
             (b'n', number) => Refusal::from_number(number.into()).map(Reply::Refused),
-            (b'e', _) => Record::try_from(&bytes[1..]).ok().map(Reply::Entry),
+            (b'e', _) => record().map(Reply::Entry),
+            (b'r', _) => record().map(|record| Reply::Receipt(Receipt { record, news })),
             (b'm', 0) => control(Mode::Normal),
             (b'm', 1) => control(Mode::Mute),
             (b'm', 2) => control(Mode::StandBy),
@@ -141,12 +153,16 @@ impl Reply {
 
 // ----- the host -----
 
-/// What the host keeps: the network and the accepted records, in the order of
-/// the steps.
+/// What the host keeps: the network, the accepted records in the order of the
+/// steps, and the news of each receipt by the register number of its message.
 struct Register {
     network: Network,
     records: Vec<Record>,
+    news: HashMap<u32, u8>,
+    /// Stations that have finished.
     finished: u32,
+    /// Receipts that told these something.
+    told: u32,
 }
 
 impl Register {
@@ -159,8 +175,9 @@ impl Register {
             }
             Request::Recv(peer) => network.recv(station, peer).map(Reply::of),
             Request::Start => network.start(station).map(Reply::Control),
-            Request::Finished => {
+            Request::Finished(told) => {
                 self.finished += 1;
+                self.told += told;
                 Ok(Reply::Is(true))
             }
             Request::Over => {
@@ -168,8 +185,13 @@ impl Register {
                 Ok(Reply::Is(over))
             }
         };
-        if let Ok(Reply::Entry(record)) = reply {
-            self.records.push(record);
+        match reply {
+            Ok(Reply::Entry(record)) => self.records.push(record),
+            Ok(Reply::Receipt(Receipt { record, news })) => {
+                self.records.push(record);
+                self.news.insert(record.register(), news);
+            }
+            _ => {}
         }
         reply.unwrap_or_else(Reply::Refused)
     }
@@ -201,6 +223,8 @@ struct Station {
     /// The stream to and from each neighbour.
     peers: Vec<(u32, UnixStream)>,
     received: u32,
+    /// Receipts that told the station something.
+    told: u32,
 }
 
 /// What a message says, beside its register number.
@@ -211,7 +235,7 @@ fn text_of(from: u32, register: u32) -> String {
 impl Station {
     fn ask(&mut self, request: Request) -> io::Result<Reply> {
         self.host.write_all(&request.to_bytes())?;
-        let mut reply = [0; 33];
+        let mut reply = [0; 34];
         self.host.read_exact(&mut reply)?;
         Reply::from_bytes(reply).ok_or(io::ErrorKind::InvalidData.into())
     }
@@ -222,7 +246,7 @@ impl Station {
         for k in 0..self.peers.len() {
             let peer = self.peers[k].0;
             match self.ask(Request::Recv(peer))? {
-                Reply::Entry(record) => {
+                Reply::Receipt(Receipt { record, news }) => {
                     let stream = &mut self.peers[k].1;
                     let mut head = [0; 5];
                     stream.read_exact(&mut head)?;
@@ -232,6 +256,7 @@ impl Station {
                     assert_eq!(head[..4], record.register().to_le_bytes());
                     assert_eq!(text, text_of(peer, record.register()).as_bytes());
                     self.received += 1;
+                    self.told += u32::from(news > 0);
                     some = true;
                 }
                 Reply::Control(_) => some = true,
@@ -293,7 +318,7 @@ impl Station {
                     busy = true;
                 }
             } else if !finished && self.received == expected {
-                self.ask(Request::Finished)?;
+                self.ask(Request::Finished(self.told))?;
                 finished = true;
             } else if finished && matches!(self.ask(Request::Over)?, Reply::Is(true)) {
                 return Ok(());
@@ -309,12 +334,14 @@ impl Station {
 
 // ----- the run -----
 
-/// Runs the host and the stations, and answers the accepted records.
-fn keep_register(header: &Header) -> Result<Vec<Record>, Box<dyn Error>> {
+/// Runs the host and the stations, and answers what the host has kept.
+fn keep_register(header: &Header) -> Result<Register, Box<dyn Error>> {
     let register = Arc::new(Mutex::new(Register {
         network: Network::setup(header)?,
         records: Vec::new(),
+        news: HashMap::new(),
         finished: 0,
+        told: 0,
     }));
     let mut streams: HashMap<(u32, u32), UnixStream> = HashMap::new();
     for (i, j) in LINKS {
@@ -334,6 +361,7 @@ fn keep_register(header: &Header) -> Result<Vec<Record>, Box<dyn Error>> {
             host,
             peers,
             received: 0,
+            told: 0,
         };
         let register = Arc::clone(&register);
         threads.push(thread::spawn(move || serve(&register, number, served)));
@@ -342,10 +370,11 @@ fn keep_register(header: &Header) -> Result<Vec<Record>, Box<dyn Error>> {
     for thread in threads {
         thread.join().map_err(|_| "a thread has panicked")??;
     }
-    let register = register.lock().map_err(|_| "a server has panicked")?;
+    let register = Arc::into_inner(register).ok_or("a thread has not ended")?;
+    let register = register.into_inner().map_err(|_| "a server has panicked")?;
     assert!(register.network.is_quiescent());
     assert_eq!(register.network.header(), *header);
-    Ok(register.records.clone())
+    Ok(register)
 }
 
 /// Every message was sent once and received once, in one phase, and its send
@@ -368,6 +397,28 @@ fn check_messages(records: &[Record]) -> Result<u32, Refusal> {
         assert_eq!(send.verdict(receipt)?, Verdict::Before);
     }
     Ok(sent.len() as u32)
+}
+
+/// The news of each receipt is how many of the other counts are greater than in
+/// the record that its station had last in the phase. Answers how many receipts
+/// had each number of news.
+fn check_news(register: &Register) -> [u32; STATIONS as usize] {
+    let mut tally = [0; STATIONS as usize];
+    for (k, record) in register.records.iter().enumerate() {
+        if record.kind() != Kind::Received {
+            continue;
+        }
+        let here = (record.station(), record.phase());
+        let mut earlier = register.records[..k].iter();
+        let last = earlier.rfind(|other| (other.station(), other.phase()) == here);
+        let (before, after) = (last.map_or([0; 8], Record::counts), record.counts());
+        let others = (0..STATIONS).filter(|&other| other != record.station());
+        let grew = others.filter(|&other| after[other as usize] > before[other as usize]);
+        let news = register.news[&record.register()];
+        assert_eq!(usize::from(news), grew.count(), "{record:?}");
+        tally[usize::from(news)] += 1;
+    }
+    tally
 }
 
 /// What happened before each record, by the records' order and messages alone:
@@ -402,8 +453,9 @@ fn main() -> Result<(), Box<dyn Error>> {
         header = header.link(i, j, LIMIT)?;
     }
 
-    let records = keep_register(&header)?;
-    let messages = check_messages(&records)?;
+    let register = keep_register(&header)?;
+    let records = &register.records;
+    let messages = check_messages(records)?;
     assert_eq!(messages, 2 * LINKS.len() as u32 * MESSAGES);
     assert_eq!(records.len() as u32, STATIONS * ENTRIES + 2 * messages);
     let phases = 1 + records.iter().map(Record::phase).max().unwrap_or(0);
@@ -413,9 +465,17 @@ fn main() -> Result<(), Box<dyn Error>> {
         records.len()
     );
 
+    // The stations have counted the receipts that told them something.
+    let [none, one, two, three] = check_news(&register);
+    assert_eq!(none + one + two + three, messages);
+    assert_eq!(one + two + three, register.told);
+    println!(
+        "{one} receipts brought news of one station, {two} of two, {three} of three, {none} none"
+    );
+
     // The archive is written to a file, and read back by who knows its bytes alone.
     let file = env::temp_dir().join(format!("melontime-register-{}", process::id()));
-    fs::write(&file, archive_bytes(&header, &records)?)?;
+    fs::write(&file, archive_bytes(&header, records)?)?;
     let bytes = fs::read(&file)?;
     fs::remove_file(&file)?;
     let archive = Archive::open(&bytes)?;
@@ -430,7 +490,7 @@ fn main() -> Result<(), Box<dyn Error>> {
     println!("with one bit changed it is refused");
 
     // Verdicts and lists against what happened before what.
-    let before = happened_before(&records);
+    let before = happened_before(records);
     let mut tally = HashMap::new();
     for (a, first) in records.iter().enumerate() {
         let mut unordered = Vec::new();

@@ -8,9 +8,10 @@
 //!
 //! All that is decided is decided by the proved library. This crate gives its
 //! numbers and byte slices Rust types: a [`Network`] of stations with its
-//! steps, the [`Record`] of an event, the [`Verdict`] on two of them, header
-//! and entries blocks, and the [`Archive`]. A refused call is an `Err` with its
-//! [`Refusal`], and changes nothing. A station is named by a `u32`, everywhere.
+//! steps, the [`Record`] of an event, the [`Receipt`] of a message with its
+//! news, the [`Verdict`] on two records, header and entries blocks, and the
+//! [`Archive`]. A refused call is an `Err` with its [`Refusal`], and changes
+//! nothing. A station is named by a `u32`, everywhere.
 //!
 //! # A network
 //!
@@ -25,11 +26,12 @@
 //!
 //! let own = network.enter(0, 501)?;
 //! let sent = network.send(0, 1, 502)?;
-//! let Outcome::Entry(received) = network.recv(1, 0)? else {
+//! let Outcome::Entry(receipt) = network.recv(1, 0)? else {
 //!     panic!("the link holds a message");
 //! };
-//! assert_eq!(received.register(), 502);
-//! assert_eq!(received.counts()[..2], [2, 1]);
+//! assert_eq!(receipt.record.register(), 502);
+//! assert_eq!(receipt.record.counts()[..2], [2, 1]);
+//! assert_eq!(receipt.news, 1); // one other station's count has grown
 //! assert_eq!(network.recv(1, 0), Err(Refusal::EmptyLink));
 //!
 //! // Station 1 starts a reset: it is mute until its neighbour has answered.
@@ -75,7 +77,7 @@ mod refusal;
 
 pub use archive::{archive_bytes, Archive, Records};
 pub use blocks::{write_entries, EntriesBlock, Header};
-pub use network::{InMode, Mode, Network, NetworkMut, Outcome};
+pub use network::{InMode, Mode, Network, NetworkMut, Outcome, Receipt};
 pub use record::{verdict, Kind, Record, Verdict};
 pub use refusal::Refusal;
 

@@ -38,12 +38,52 @@ pub struct InMode {
     pub phase: u32,
 }
 
-/// What a receipt comes to. Later versions may have other outcomes.
+/// The receipt of a message: an entry, and how much the message told.
+///
+/// A station knows of the others by its counts. A message that raises none of
+/// theirs told it nothing that it had not heard by another way.
+///
+/// ```
+/// use melontime::{Header, Network, Outcome, Refusal};
+///
+/// /// The news of a message that station i takes from j.
+/// fn news(network: &mut Network, i: u32, j: u32) -> Result<u8, Refusal> {
+///     match network.recv(i, j)? {
+///         Outcome::Entry(receipt) => Ok(receipt.news),
+///         other => panic!("{other:?} is no receipt of a message"),
+///     }
+/// }
+///
+/// // Three stations, each linked to the two others.
+/// let header = Header::new(3, 8).link(0, 1, 2)?.link(0, 2, 2)?.link(1, 2, 2)?;
+/// let mut network = Network::setup(&header)?;
+/// network.send(0, 2, 501)?;
+/// network.send(0, 1, 502)?;
+/// assert_eq!(news(&mut network, 1, 0)?, 1);
+///
+/// // Station 1 sends on what it has heard: to 2 that is news of 0 and of 1.
+/// network.send(1, 2, 503)?;
+/// assert_eq!(news(&mut network, 2, 1)?, 2);
+///
+/// // The first message has been overtaken, and tells nothing new.
+/// assert_eq!(news(&mut network, 2, 0)?, 0);
+/// # Ok::<(), Refusal>(())
+/// ```
+#[derive(Clone, Copy, Debug, PartialEq, Eq, Hash)]
+pub struct Receipt {
+    /// The record of the entry.
+    pub record: Record,
+    /// How many of the other stations' counts grew: 0 to 7. The station's own
+    /// count, which every entry raises, is not among them.
+    pub news: u8,
+}
+
+/// What a step of receiving comes to. Later versions may have other outcomes.
 #[derive(Clone, Copy, Debug, PartialEq, Eq, Hash)]
 #[non_exhaustive]
 pub enum Outcome {
-    /// A message was taken: an entry, with its record.
-    Entry(Record),
+    /// A message was taken: an entry, with its record and the message's news.
+    Entry(Receipt),
     /// A control item was taken, a step of a reset: where the station is after
     /// it.
     Control(InMode),
@@ -277,7 +317,8 @@ impl<A: DerefMut<Target = [u8]>> Network<A> {
     }
 
     /// A station takes the first item of the link from a neighbour: a message,
-    /// which is an entry, or a control item of a reset. Every mode allows it.
+    /// which is an entry and tells its news, or a control item of a reset. Every
+    /// mode allows it.
     ///
     /// # Errors
     ///
@@ -292,7 +333,10 @@ impl<A: DerefMut<Target = [u8]>> Network<A> {
     /// let mut network = Network::setup(&Header::new(2, 7).link(0, 1, 2)?)?;
     /// network.send(0, 1, 502)?;
     /// network.start(0)?;
-    /// assert!(matches!(network.recv(1, 0)?, Outcome::Entry(record) if record.register() == 502));
+    /// let Outcome::Entry(receipt) = network.recv(1, 0)? else {
+    ///     panic!("the link holds a message");
+    /// };
+    /// assert_eq!((receipt.record.register(), receipt.news), (502, 1));
     /// let after = InMode { mode: Mode::StandBy, phase: 1 };
     /// assert_eq!(network.recv(1, 0)?, Outcome::Control(after));
     /// assert_eq!(network.recv(1, 0), Err(Refusal::EmptyLink));
@@ -301,7 +345,10 @@ impl<A: DerefMut<Target = [u8]>> Network<A> {
     pub fn recv(&mut self, station: u32, peer: u32) -> Result<Outcome, Refusal> {
         let mut event = [0; RECORD];
         match raw::recv(&mut self.area, &mut event, station, peer) {
-            100 => Ok(Outcome::Entry(Record::written(event))),
+            answer @ 100..=107 => Ok(Outcome::Entry(Receipt {
+                record: Record::written(event),
+                news: (answer - 100) as u8,
+            })),
             other => in_mode("recv", other).map(Outcome::Control),
         }
     }

@@ -155,7 +155,8 @@ pub fn send(area: &mut [u8], event: &mut [u8], station: u32, peer: u32, register
     }
 }
 
-/// A station takes the first item of the link from its peer.
+/// A station takes the first item of the link from its peer. Of a message the
+/// answer is 100 + its news: how many of the other stations' counts grew.
 #[must_use]
 pub fn recv(area: &mut [u8], event: &mut [u8], station: u32, peer: u32) -> u64 {
     // SAFETY: see the head of this module.

@@ -196,7 +196,7 @@ pub fn step(area: &mut [u8], event: &mut [u8], step: Step) -> Outcome {
     let mut state = read(area)?;
     let answer = state.step_well_formed(step)?;
     write(&state, area);
-    if let Answer::Entry(record) = &answer {
+    if let Answer::Entry { record, .. } = &answer {
         event.copy_from_slice(&record.to_bytes());
     }
     Ok(answer)

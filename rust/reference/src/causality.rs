@@ -1,5 +1,5 @@
 //! The plain network, happened-before and demand 3: 'Plain network and
-//! recorded order' in document 01.
+//! recorded order' in document 01; the news of a receipt, CR 7 in document 02.
 
 use std::collections::{HashMap, VecDeque};
 
@@ -18,6 +18,17 @@ pub struct PlainMessage {
     pub register: u32,
     /// The timestamp of its send.
     pub counts: PlainCounts,
+}
+
+/// What a receipt of the plain network comes to.
+#[derive(Clone, Copy, Debug, PartialEq, Eq)]
+pub struct PlainReceipt {
+    /// The station's counts after.
+    pub counts: PlainCounts,
+    /// The message that it took.
+    pub message: PlainMessage,
+    /// How many of the other stations' counts grew.
+    pub news: u8,
 }
 
 /// The plain network: eight counts for each station and an unbounded queue of
@@ -70,17 +81,23 @@ impl PlainNetwork {
 
     /// recv i j: each other count to the greater, own count +1. No result from
     /// an empty queue.
-    pub fn recv(&mut self, i: usize, j: usize) -> Option<(PlainCounts, PlainMessage)> {
+    pub fn recv(&mut self, i: usize, j: usize) -> Option<PlainReceipt> {
         let message = self.queues.get_mut(&(j, i))?.pop_front()?;
         let counts = self.counts_mut(i);
+        let mut news = 0;
         for (k, count) in counts.iter_mut().enumerate() {
-            *count = if k == i {
-                *count + 1
-            } else {
-                (*count).max(message.counts[k])
-            };
+            if k == i {
+                *count += 1;
+            } else if message.counts[k] > *count {
+                *count = message.counts[k];
+                news += 1;
+            }
         }
-        Some((*counts, message))
+        Some(PlainReceipt {
+            counts: *counts,
+            message,
+            news,
+        })
     }
 }
 
@@ -93,6 +110,8 @@ pub struct Entry {
     pub step: Step,
     /// The record that it answered.
     pub record: Record,
+    /// The news that it answered behind the record.
+    pub news: Option<u8>,
 }
 
 /// The accepted entries of a step list, in list order.
@@ -102,10 +121,11 @@ pub fn accepted_entries(steps: &[Step], outcomes: &[Outcome]) -> Vec<Entry> {
         .zip(outcomes)
         .enumerate()
         .filter_map(|(at, (&step, outcome))| match outcome {
-            Ok(Answer::Entry(record)) => Some(Entry {
+            Ok(Answer::Entry { record, news }) => Some(Entry {
                 at,
                 step,
                 record: *record,
+                news: *news,
             }),
             _ => None,
         })
@@ -259,7 +279,7 @@ impl Run {
         };
         let outcome = self.last.step(step);
         let taken = match (&outcome, front) {
-            (Ok(Answer::Entry(_)), Some(Item::Message(message))) => Some(message),
+            (Ok(Answer::Entry { .. }), Some(Item::Message(message))) => Some(message),
             _ => None,
         };
         self.steps.push(step);
@@ -312,10 +332,11 @@ impl Run {
 
 /// Demand 3 over a list of steps from an initial network and their outcomes.
 ///
-/// The claim, as read from 'Plain network and recorded order':
+/// The claim, as read from 'Plain network and recorded order', and beside it
+/// that the news of a receipt is the plain network's:
 ///
 /// 1. each accepted entry answers a record of the step's kind, station, peer
-///    and register number;
+///    and register number, and news where it is a receipt;
 /// 2. a station's phase never falls along its accepted steps;
 /// 3. each receipt has a send that goes with it, earlier in the list, of the
 ///    same phase and with the same register number;
@@ -323,7 +344,7 @@ impl Run {
 ///    has been received, in that phase;
 /// 5. the plain network of each phase, fed that phase's entries, meets no
 ///    receipt from an empty queue, and gives each entry the same timestamp and
-///    each receipt the same register number;
+///    each receipt the same register number and news;
 /// 6. of two different entries of one phase, the first precedes the second in
 ///    happened-before exactly when its timestamp is less; the verdict is same
 ///    for no two of them, and unordered exactly when neither precedes;
@@ -342,7 +363,10 @@ pub fn check_demand3(steps: &[Step], outcomes: &[Outcome]) -> Result<(), String>
 
 /// Part 1.
 fn check_records(entries: &[Entry]) -> Result<(), String> {
-    for Entry { at, step, record } in entries {
+    for entry in entries {
+        let Entry {
+            at, step, record, ..
+        } = entry;
         let (kind, station, peer, register) = match *step {
             Step::Enter { station, register } => {
                 (Kind::Own, station, usize::from(NO_PEER), Some(register))
@@ -359,6 +383,7 @@ fn check_records(entries: &[Entry]) -> Result<(), String> {
             && usize::from(record.station) == station
             && usize::from(record.peer) == peer
             && register.is_none_or(|register| register == record.register)
+            && entry.news.is_some() == (kind == Kind::Received)
             && record.is_well_made();
         if !fits {
             return Err(format!("step {at}: the record is not that of the step"));
@@ -388,7 +413,9 @@ fn check_messages(entries: &[Entry], after: &HashMap<usize, u32>) -> Result<(), 
     let steps: Vec<Step> = entries.iter().map(|e| e.step).collect();
     let mut received = vec![false; entries.len()];
     for (receipt, send) in matching_sends(&steps).into_iter().enumerate() {
-        let Entry { at, step, record } = &entries[receipt];
+        let Entry {
+            at, step, record, ..
+        } = &entries[receipt];
         if !matches!(step, Step::Recv { .. }) {
             continue;
         }
@@ -424,7 +451,13 @@ fn check_messages(entries: &[Entry], after: &HashMap<usize, u32>) -> Result<(), 
 /// Part 5.
 fn check_plain(entries: &[Entry]) -> Result<(), String> {
     let mut networks: HashMap<u32, PlainNetwork> = HashMap::new();
-    for Entry { at, step, record } in entries {
+    for Entry {
+        at,
+        step,
+        record,
+        news,
+    } in entries
+    {
         let network = networks.entry(record.phase).or_default();
         let counts = match *step {
             Step::Enter { station, .. } => network.enter(station),
@@ -434,13 +467,16 @@ fn check_plain(entries: &[Entry]) -> Result<(), String> {
                 register,
             } => network.send(station, peer, register),
             Step::Recv { station, peer } => {
-                let (counts, message) = network
+                let plain = network
                     .recv(station, peer)
                     .ok_or(format!("step {at}: a receipt from an empty plain queue"))?;
-                if message.register != record.register {
+                if plain.message.register != record.register {
                     return Err(format!("step {at}: another register number than plain"));
                 }
-                counts
+                if Some(plain.news) != *news {
+                    return Err(format!("step {at}: other news than in the plain network"));
+                }
+                plain.counts
             }
             Step::Start { .. } => unreachable!("a start answers no entry"),
         };

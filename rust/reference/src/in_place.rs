@@ -12,6 +12,7 @@ mod records;
 
 use self::formed::head_of;
 use self::head::{links_of, Head};
+use self::lanes::counts_at;
 use crate::area::{get_station, link_at, put_counts, put_station, station_at};
 use crate::area::{ITEM, LINK, LINKS_AT, PLACES, STATION};
 use crate::check::BLOCK;
@@ -19,7 +20,7 @@ use crate::header::Header;
 use crate::network::{Answer, Mode, Outcome, Station, Step, AREA, EXTRA_PLACES};
 use crate::record::{Kind, Record, NO_PEER, RECORD};
 use crate::refusal::Refusal;
-use crate::{LAST_PHASE, MAX_STATIONS};
+use crate::{Counts, LAST_PHASE, MAX_STATIONS};
 
 pub use self::records::verdict;
 
@@ -97,10 +98,24 @@ pub fn step(area: &mut [u8], event: &mut [u8], step: Step) -> Outcome {
         Step::Recv { peer, .. } => at.recv(peer),
         Step::Start { .. } => at.start(),
     }?;
-    if let Answer::Entry(record) = &answer {
+    if let Answer::Entry { record, .. } = &answer {
         event.copy_from_slice(&record.to_bytes());
     }
     Ok(answer)
+}
+
+/// Raises counts to those of a message, where these are greater, and the own
+/// count to a number; answers how many of the others grew. The places are taken
+/// alike, as lanes, and the own one is put right afterwards.
+fn raise(counts: &mut Counts, i: usize, own: u16, message: &Counts) -> u8 {
+    let mut grew = Counts::default();
+    for k in 0..MAX_STATIONS {
+        grew[k] = u16::from(message[k] > counts[k]);
+        counts[k] = counts[k].max(message[k]);
+    }
+    grew[i] = 0;
+    counts[i] = own;
+    grew.iter().sum::<u16>() as u8
 }
 
 /// The most items of a link with a limit.
@@ -150,16 +165,17 @@ impl At<'_> {
         }
     }
 
-    fn entry(&mut self, kind: Kind, peer: u8, register: u32) -> Outcome {
+    fn entry(&mut self, kind: Kind, peer: u8, register: u32, news: Option<u8>) -> Outcome {
         self.put(self.i);
-        Ok(Answer::Entry(Record {
+        let record = Record {
             kind,
             station: self.i as u8,
             peer,
             phase: self.station.phase,
             register,
             counts: self.station.counts,
-        }))
+        };
+        Ok(Answer::Entry { record, news })
     }
 
     fn enter(&mut self, register: u32) -> Outcome {
@@ -168,7 +184,7 @@ impl At<'_> {
         }
         self.station.counts[self.i] = self.own_count_after()?;
         self.station.own_entries += 1;
-        self.entry(Kind::Own, NO_PEER, register)
+        self.entry(Kind::Own, NO_PEER, register, None)
     }
 
     fn send(&mut self, j: usize, register: u32) -> Outcome {
@@ -203,7 +219,7 @@ impl At<'_> {
         put_counts(&mut item[5..], &counts);
         self.station.counts = counts;
         self.station.sent[j] += 1;
-        self.entry(Kind::Sent, j as u8, register)
+        self.entry(Kind::Sent, j as u8, register, None)
     }
 
     fn recv(&mut self, j: usize) -> Outcome {
@@ -219,14 +235,11 @@ impl At<'_> {
         match item[0] {
             MESSAGE => {
                 let own = self.own_count_after()?;
-                let (counts, _) = item[5..].as_chunks::<2>();
-                for (mine, &its) in self.station.counts.iter_mut().zip(counts) {
-                    *mine = (*mine).max(u16::from_le_bytes(its));
-                }
-                self.station.counts[i] = own;
+                let counts = counts_at(item.last_chunk().expect("counts"));
+                let news = raise(&mut self.station.counts, i, own, &counts);
                 self.take(j);
                 let register = u32::from_le_bytes([item[1], item[2], item[3], item[4]]);
-                self.entry(Kind::Received, j as u8, register)
+                self.entry(Kind::Received, j as u8, register, Some(news))
             }
             kind => {
                 let seen = match kind {

@@ -1,5 +1,5 @@
 //! The network with resets: 'The network', 'What a station holds', 'The steps'
-//! and 'State area and host' in document 01.
+//! and 'State area and host' in document 01; CR 5 and CR 7 in document 02.
 //!
 //! A state is a Rust value here and has no byte layout. All its fields are
 //! public, so that any state can be built, also one that no initial network
@@ -165,8 +165,15 @@ impl Step {
 /// The answer to an accepted step.
 #[derive(Clone, Copy, Debug, PartialEq, Eq, Hash)]
 pub enum Answer {
-    /// An accepted entry answers its record.
-    Entry(Record),
+    /// An accepted entry answers its record; the receipt of a message, after
+    /// it, its news.
+    Entry {
+        /// The record.
+        record: Record,
+        /// Of a receipt, and of no other entry: how many of the other stations'
+        /// counts it raised (CR 7).
+        news: Option<u8>,
+    },
     /// Another step answers the mode and phase after.
     Mode {
         /// The station's mode after the step.
@@ -180,7 +187,7 @@ impl Answer {
     /// The phase in the answer.
     pub fn phase(&self) -> u32 {
         match self {
-            Answer::Entry(record) => record.phase,
+            Answer::Entry { record, .. } => record.phase,
             Answer::Mode { phase, .. } => *phase,
         }
     }
@@ -201,6 +208,19 @@ pub enum ResetRule {
 
 /// What a step comes to.
 pub type Outcome = Result<Answer, Refusal>;
+
+/// Raises the counts of station i by those of a message: each other count to
+/// the greater of the two, then own count +1. Answers the news: how many of the
+/// other counts grew.
+fn raise(counts: &mut Counts, i: usize, message: &Counts) -> u8 {
+    let before = *counts;
+    for (count, &its) in counts.iter_mut().zip(message) {
+        *count = (*count).max(its);
+    }
+    counts[i] = before[i] + 1;
+    let grew = (0..MAX_STATIONS).filter(|&k| k != i && counts[k] > before[k]);
+    grew.count() as u8
+}
 
 /// Setup from a header block: 1, then 3.
 pub fn setup(block: &[u8]) -> Result<State, Refusal> {
@@ -366,7 +386,7 @@ impl State {
             return Err(Refusal::BufferLength);
         }
         let outcome = self.step(step);
-        if let Ok(Answer::Entry(record)) = &outcome {
+        if let Ok(Answer::Entry { record, .. }) = &outcome {
             buffer.copy_from_slice(&record.to_bytes());
         }
         outcome
@@ -401,17 +421,16 @@ impl State {
         }
     }
 
-    /// The answer to an accepted entry: the record with the station's phase
-    /// and counts.
-    fn entry(&self, kind: Kind, i: usize, peer: u8, register: u32) -> Outcome {
-        Ok(Answer::Entry(Record {
+    /// The record of an accepted entry, with the station's phase and counts.
+    fn record(&self, kind: Kind, i: usize, peer: u8, register: u32) -> Record {
+        Record {
             kind,
             station: i as u8,
             peer,
             phase: self.stations[i].phase,
             register,
             counts: self.stations[i].counts,
-        }))
+        }
     }
 
     /// enter i reg: own count +1; the entry's timestamp is the eight counts.
@@ -425,7 +444,8 @@ impl State {
         let station = &mut self.stations[i];
         station.counts[i] = own;
         station.own_entries += 1;
-        self.entry(Kind::Own, i, NO_PEER, register)
+        let record = self.record(Kind::Own, i, NO_PEER, register);
+        Ok(Answer::Entry { record, news: None })
     }
 
     /// send i j reg: own count +1; that timestamp and reg are put on link i to
@@ -453,7 +473,8 @@ impl State {
         station.sent[j] += 1;
         let counts = station.counts;
         self.links[i][j].push_back(Item::Message(Message { register, counts }));
-        self.entry(Kind::Sent, i, j as u8, register)
+        let record = self.record(Kind::Sent, i, j as u8, register);
+        Ok(Answer::Entry { record, news: None })
     }
 
     /// recv i j: station i takes the first item of link j to i.
@@ -473,20 +494,17 @@ impl State {
         }
     }
 
-    /// A message: each other count is raised to the greater of the two, then
-    /// own count +1; that is an entry, with the message's register number.
+    /// A message: the counts are raised by its counts; that is an entry, with
+    /// the message's register number. 9 where the own count would be above t.
     fn recv_message(&mut self, i: usize, j: usize, message: Message) -> Outcome {
-        let own = self.own_count_after(i)?;
+        self.own_count_after(i)?;
         self.links[j][i].pop_front();
-        let counts = &mut self.stations[i].counts;
-        for (k, count) in counts.iter_mut().enumerate() {
-            *count = if k == i {
-                own
-            } else {
-                (*count).max(message.counts[k])
-            };
-        }
-        self.entry(Kind::Received, i, j as u8, message.register)
+        let news = raise(&mut self.stations[i].counts, i, &message.counts);
+        let record = self.record(Kind::Received, i, j as u8, message.register);
+        Ok(Answer::Entry {
+            record,
+            news: Some(news),
+        })
     }
 
     /// start i: allowed in normal. Begin, then the reset rules.

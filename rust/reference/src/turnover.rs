@@ -1,5 +1,5 @@
 //! The program `turnover`, as a function from input to output: 'turnover' in
-//! document 01.
+//! document 01; CR 1 and CR 7 in document 02.
 
 use std::io::Write;
 
@@ -221,14 +221,17 @@ impl Program {
 }
 
 /// The line of a step's answer, without its line feed: the step's number and
-/// `entry` phase station and the n counts; or `mode` phase station and mode; or
-/// `no` and the refusal.
+/// `entry` phase station and the n counts, behind which a receipt has its news;
+/// or `mode` phase station and mode; or `no` and the refusal.
 pub fn answer_line(number: u64, step: Step, outcome: &Outcome, n: usize) -> String {
     match outcome {
-        Ok(Answer::Entry(record)) => {
+        Ok(Answer::Entry { record, news }) => {
             let mut text = format!("{number} entry {} {}", record.phase, record.station);
             for count in &record.counts[..n] {
                 text.push_str(&format!(" {count}"));
+            }
+            if let Some(news) = news {
+                text.push_str(&format!(" {news}"));
             }
             text
         }

@@ -40,10 +40,11 @@ fn plain_network() {
     assert_eq!(plain.send(0, 1, 9)[..2], [2, 0]);
     assert_eq!(plain.enter(1)[..2], [0, 1]);
     assert_eq!(plain.queue(0, 1).len(), 1);
-    let (counts, message) = plain.recv(1, 0).unwrap();
-    assert_eq!((&counts[..2], message.register), (&[2, 2][..], 9));
+    let receipt = plain.recv(1, 0).unwrap();
+    assert_eq!(receipt.counts[..2], [2, 2]);
+    assert_eq!((receipt.message.register, receipt.news), (9, 1));
     assert_eq!(plain.recv(1, 0), None);
-    assert_eq!(plain.counts(1), counts);
+    assert_eq!(plain.counts(1), receipt.counts);
     assert_eq!(plain.counts(5), [0; 8]);
 }
 
@@ -181,6 +182,12 @@ fn random_runs() {
     assert!(entries > 100_000 && receipts > 20_000 && phases > 10_000 && unordered > 50_000);
 }
 
+/// Other news than these, or none.
+fn other_news(rng: &mut Rng, news: Option<u8>) -> Option<u8> {
+    let other = rng.below(8) as u8;
+    (news != Some(other)).then_some(other)
+}
+
 /// The checker is no rubber stamp: a changed answer is found.
 #[test]
 fn changed_answers_are_found() {
@@ -202,14 +209,15 @@ fn changed_answers_are_found() {
         }
         let entry = list[rng.index(list.len())];
         let mut outcomes = run.outcomes.clone();
-        let mut record = entry.record;
-        match rng.below(4) {
+        let (mut record, mut news) = (entry.record, entry.news);
+        match rng.below(5) {
             0 => record.counts[rng.index(header.n())] += 1,
             1 => record.register = record.register.wrapping_add(1),
             2 => record.phase = (record.phase + 1) % LAST_PHASE,
-            _ => record.station = (record.station + 1) % 8,
+            3 => record.station = (record.station + 1) % 8,
+            _ => news = other_news(&mut rng, news),
         }
-        outcomes[entry.at] = Ok(Answer::Entry(record));
+        outcomes[entry.at] = Ok(Answer::Entry { record, news });
         // Another phase for the last entry of a station may be right by itself.
         let alone = record.phase != entry.record.phase
             && list
@@ -223,7 +231,7 @@ fn changed_answers_are_found() {
         changed += 1;
         assert!(
             check_demand3(&run.steps, &outcomes).is_err(),
-            "{entry:?} {record:?}"
+            "{entry:?} {record:?} {news:?}"
         );
         // A refused send whose message is received is found too.
         if let (Step::Send { .. }, Some(_)) = (

@@ -68,21 +68,23 @@ fn try_step(state: &mut State, step: Step) -> u8 {
     number(outcome)
 }
 
-/// The worked listing, steps 1 to 11, with the records.
+/// The worked listing, steps 1 to 11, with the records, and behind those of
+/// receipts their news.
 #[test]
 fn worked_listing() {
     let mut state = initial(2, &[(0, 1)], 2, 3);
     assert_eq!(state.header.ceiling, 7);
     let entry = |kind, station, peer, phase, register, a, b| {
-        let counts = [a, b, 0, 0, 0, 0, 0, 0];
-        Ok(Answer::Entry(Record {
+        let record = Record {
             kind,
             station,
             peer,
             phase,
             register,
-            counts,
-        }))
+            counts: [a, b, 0, 0, 0, 0, 0, 0],
+        };
+        let news = (kind == Kind::Received).then_some(1);
+        Ok(Answer::Entry { record, news })
     };
     let list = [
         (enter(0, 501), entry(Kind::Own, 0, NO_PEER, 0, 501, 1, 0)),
@@ -253,7 +255,7 @@ fn link_places() {
     assert!(state.is_well_formed());
     // The messages are taken in the old phase, by a mute station.
     for count in [1, 2] {
-        let Ok(Answer::Entry(record)) = state.step(recv(1, 0)) else {
+        let Ok(Answer::Entry { record, .. }) = state.step(recv(1, 0)) else {
             panic!()
         };
         assert_eq!((record.phase, record.register), (0, u32::from(count)));
@@ -293,7 +295,7 @@ fn limits_start_anew() {
 fn entries_in_every_mode() {
     let mut state = initial(2, &[(0, 1)], 1, 2);
     let phase_of = |state: &mut State, i: usize| match state.step(enter(i, 5)) {
-        Ok(Answer::Entry(record)) => (record.phase, record.counts[i]),
+        Ok(Answer::Entry { record, .. }) => (record.phase, record.counts[i]),
         other => panic!("{other:?}"),
     };
     assert_eq!(phase_of(&mut state, 0), (0, 1));
@@ -390,7 +392,8 @@ fn record_buffer() {
     assert_eq!(buffer, [7; 32]);
     assert!(state.step_with_buffer(send(0, 1, 3), &mut buffer).is_err());
     assert_eq!(buffer, [7; 32]);
-    let Ok(Answer::Entry(record)) = state.step_with_buffer(send(1, 2, 3), &mut buffer) else {
+    let outcome = state.step_with_buffer(send(1, 2, 3), &mut buffer);
+    let Ok(Answer::Entry { record, .. }) = outcome else {
         panic!()
     };
     assert_eq!(buffer, record.to_bytes());
@@ -486,7 +489,7 @@ fn own_count_of_receipt() {
         register: 8,
         counts,
     }));
-    let Ok(Answer::Entry(record)) = state.step(recv(0, 1)) else {
+    let Ok(Answer::Entry { record, .. }) = state.step(recv(0, 1)) else {
         panic!()
     };
     assert_eq!(record.counts, [3, 5, 3, 0, 0, 0, 0, 0]);
@@ -641,7 +644,7 @@ fn rest_in_runs() {
                 habits = Habits::any(&mut rng);
             }
             let step = generate::next_step(&mut rng, &state, &habits);
-            if let Ok(Answer::Entry(record)) = state.step(step) {
+            if let Ok(Answer::Entry { record, .. }) = state.step(step) {
                 sent += u32::from(record.kind == Kind::Sent);
                 received += u32::from(record.kind == Kind::Received);
             }

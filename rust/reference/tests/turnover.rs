@@ -43,13 +43,13 @@ fn worked_listing() {
 1 entry 0 0 1 0
 2 entry 0 0 2 0
 3 mode 0 1 mute
-4 entry 0 1 2 1
+4 entry 0 1 2 1 1
 5 mode 1 0 stand-by
 6 mode 1 1 stand-by
 7 mode 1 1 normal
 8 entry 1 1 0 1
 9 mode 1 0 normal
-10 entry 1 0 1 1
+10 entry 1 0 1 1 1
 11 no 7
 ";
     assert_eq!(run(&LISTING), want);
@@ -355,7 +355,8 @@ fn bad_lines() {
     }
 }
 
-/// The counts of the network are printed, not eight; all words of a mode.
+/// The counts of the network are printed, not eight, and behind those of a
+/// receipt its news.
 #[test]
 fn printed_counts() {
     assert_eq!(
@@ -375,8 +376,44 @@ fn printed_counts() {
     lines.extend(["enter 7 0", "send 7 0 0", "recv 0 7"]);
     assert_eq!(
         run(&lines),
-        "1 entry 0 7 0 0 0 0 0 0 0 1\n2 entry 0 7 0 0 0 0 0 0 0 2\n3 entry 0 0 1 0 0 0 0 0 0 2\n"
+        "1 entry 0 7 0 0 0 0 0 0 0 1\n2 entry 0 7 0 0 0 0 0 0 0 2\n3 entry 0 0 1 0 0 0 0 0 0 2 1\n"
     );
+}
+
+/// A receipt's line ends in its news, also where that is 0; no other line has
+/// such a field.
+#[test]
+fn printed_news() {
+    let printed = run(&[
+        "net 3 10",
+        "allow 0 2",
+        "link 0 1 2",
+        "link 0 2 2",
+        "link 1 2 2",
+        "send 1 0 1",
+        "send 1 2 2",
+        "recv 2 1",
+        "send 2 0 3",
+        "recv 0 2",
+        "recv 0 1",
+        "enter 0 4",
+        "recv 0 1",
+        "start 1",
+        "recv 0 1",
+    ]);
+    let want = "\
+1 entry 0 1 0 1 0
+2 entry 0 1 0 2 0
+3 entry 0 2 0 2 1 1
+4 entry 0 2 0 2 2
+5 entry 0 0 1 2 2 2
+6 entry 0 0 2 2 2 0
+7 entry 0 0 3 2 2
+8 no 7
+9 mode 0 1 mute
+10 mode 0 0 mute
+";
+    assert_eq!(printed, want);
 }
 
 /// What a script comes to, from its lines as values: no text is read here.

@@ -87,7 +87,7 @@ returns-4 c =
     let z : stationView (v .entered .result) ≡ entered n (stationAt s n) = v .entered .ensures ∙ ap (entered n) (sym (x l)) in
     does k (doEnter n r s)
     (enter-done _ _ (k .formed) _ _ (at (o l) .station) (rw (allowed l, x l) (e .if2 .left)) (rw (t-is k (h l .header-of .ensures), x l) (v .before .if3 .left)))
-    (c .entry .ensures ∙ ap (λ (y : NetworkStation vector). steppedOf (entry (entryOf 1 n 255 r y))) z)
+    (c .entry .ensures ∙ ap (λ (y : NetworkStation vector). steppedOf (entry (entryOf 1 n 255 r y 0))) z)
     (c .before .before .before .put-station .ensures (configAt (a (h l))) s (k .is) ∙ ap (λ (y : NetworkStation vector). image (configAt (a (h l))) (setStation s n y)) z)
 
 pub enter-spec : {M : Type 1} → statement M

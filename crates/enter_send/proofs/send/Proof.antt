@@ -113,7 +113,7 @@ returns-3 c =
     let y = r l in
     let z = c .before .before .send-message .ensures in
     does (known y) (doSend (i y) (j y) (g y) (s y)) (accepted l (e .if2 .left) .done)
-    (z .answer ∙ ap (λ (r : NetworkStation vector). steppedOf (entry (entryOf 2 (i y) (j y) (g y) (sending (i y) (j y) r)))) (sym (x l)))
+    (z .answer ∙ ap (λ (r : NetworkStation vector). steppedOf (entry (entryOf 2 (i y) (j y) (g y) (sending (i y) (j y) r) 0))) (sym (x l)))
     (z .area (d y) (s y) (known y .is)
     ∙ ap (λ (r : NetworkStation vector). image (d y) (putOn (setStation (s y) (i y) (sending (i y) (j y) r)) (i y) (j y) (message (tick (i y) (r .time)) (g y)))) (sym (x l)))
 

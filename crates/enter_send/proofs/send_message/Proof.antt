@@ -27,7 +27,7 @@ returns c =
     let m : NetworkItem vector = message (tick i (g .s .counts)) (g .register) in
     let z : stationView (p .sending .result) ≡ x = p .sending .ensures in
     record {
-      answer = c .entry .ensures ∙ ap (λ (q : NetworkStation vector). steppedOf (entry (entryOf 2 i j (g .register) q))) z;
+      answer = c .entry .ensures ∙ ap (λ (q : NetworkStation vector). steppedOf (entry (entryOf 2 i j (g .register) q 0))) z;
       area = λ d s e.
           c .before .before .before .put-station .ensures d _ (o .push-at .ensures d s e)
           ∙ ap (λ (q : NetworkStation vector). image d (setStation (putOn s i j (message (q .time) (g .register))) i q)) z

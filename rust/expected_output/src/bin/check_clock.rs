@@ -16,9 +16,10 @@ fn network() -> State {
     State::initial(&header).expect("a network")
 }
 
-fn counts_of(answer: Outcome) -> Counts {
+/// An entry's counts, and a receipt's news.
+fn entry_of(answer: Outcome) -> (Counts, Option<u8>) {
     match answer.expect("an accepted step") {
-        Answer::Entry(record) => record.counts,
+        Answer::Entry { record, news } => (record.counts, news),
         Answer::Mode { .. } => unreachable!("an entry"),
     }
 }
@@ -27,14 +28,16 @@ fn counts_of(answer: Outcome) -> Counts {
 fn advanced(counts: Counts, i: usize) -> Counts {
     let mut state = network();
     state.station_mut(i).counts = counts;
-    counts_of(state.step(Step::Enter {
+    let (counts, _) = entry_of(state.step(Step::Enter {
         station: i,
         register: 0,
-    }))
+    }));
+    counts
 }
 
-/// Station i receives a message.
-fn raised(counts: Counts, message: Counts, i: usize) -> Counts {
+/// Station i receives a message: its counts after, and how many of the others
+/// grew.
+fn raised(counts: Counts, message: Counts, i: usize) -> (Counts, u8) {
     let peer = (i + 1) % 8;
     let mut state = network();
     state.station_mut(i).counts = counts;
@@ -42,13 +45,14 @@ fn raised(counts: Counts, message: Counts, i: usize) -> Counts {
         register: 0,
         counts: message,
     }));
-    counts_of(state.step(Step::Recv { station: i, peer }))
+    let (counts, news) = entry_of(state.step(Step::Recv { station: i, peer }));
+    (counts, news.expect("news of a receipt"))
 }
 
 /// Each count as it is after a receipt at another station.
 fn merged(a: Counts, b: Counts) -> Counts {
     let other = |k: usize| (0..8).find(|&i| i != k && a[i] < 65535);
-    std::array::from_fn(|k| raised(a, b, other(k).expect("a station"))[k])
+    std::array::from_fn(|k| raised(a, b, other(k).expect("a station")).0[k])
 }
 
 /// Whether the archive of n stations and ceiling t may have a record of these
@@ -91,11 +95,12 @@ fn join(a: Counts, b: Counts) {
 
 fn step(a: Counts, b: Counts, i: usize) {
     println!("advance{}:{}", spaced(a), spaced(advanced(a, i)));
+    let (counts, news) = raised(a, b, i);
     println!(
-        "raise{} by{}:{}",
+        "raise{} by{}:{}, news {news}",
         spaced(a),
         spaced(b),
-        spaced(raised(a, b, i))
+        spaced(counts)
     );
 }
 
@@ -104,6 +109,11 @@ fn fives(i: usize, x: u16) -> Counts {
     let mut counts = [5; 8];
     counts[i] = x;
     counts
+}
+
+/// Sixes up to place i, and fours behind it.
+fn up_to(i: usize) -> Counts {
+    std::array::from_fn(|k| if k <= i { 6 } else { 4 })
 }
 
 fn place(i: usize, j: usize) {
@@ -117,6 +127,7 @@ fn place(i: usize, j: usize) {
     join(fives(i, 65535), fives(j, 7));
     step(fives(i, 65534), fives(j, 8), i);
     step(fives(i, 3), fives(i, 65535), i);
+    step(fives(i, 5), up_to(i), i);
 }
 
 /// One count x at each place in turn, the others 0.

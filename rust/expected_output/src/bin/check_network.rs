@@ -1,5 +1,6 @@
 //! What the program check_network is to print.
 
+use expected_output::spaced;
 use reference::area;
 use reference::header::Header;
 use reference::network::*;
@@ -48,13 +49,12 @@ fn step(a: &mut Vec<u8>, n: usize, kind: u32, i: usize, j: usize, reg: u32) -> (
             assert!(s == before);
             (format!("no {}", num(e)), num(e))
         }
-        Ok(Answer::Entry(r)) => {
+        Ok(Answer::Entry { record: r, news }) => {
             *a = area::image(&s);
-            let c: Vec<String> = r.counts[..n].iter().map(|x| x.to_string()).collect();
-            (
-                format!("entry {} {} {}", r.phase, r.station, c.join(" ")),
-                0,
-            )
+            let counts = spaced(&r.counts[..n]);
+            // A receipt's news stands behind the counts.
+            let news = spaced(news);
+            (format!("entry {} {}{counts}{news}", r.phase, r.station), 0)
         }
         Ok(Answer::Mode { mode, phase }) => {
             *a = area::image(&s);

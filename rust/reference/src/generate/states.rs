@@ -99,6 +99,47 @@ pub fn any_state_of(rng: &mut Rng, header: &Header) -> State {
     state
 }
 
+/// Counts of station i and of a message: the message's are greater at so many
+/// places of other stations below n, and not greater at the rest of them. The
+/// own count is below the ceiling, and the message's count for it is any.
+fn counts_with_news(rng: &mut Rng, header: &Header, i: usize, news: usize) -> (Counts, Counts) {
+    let most = u64::from(header.ceiling);
+    let (mut counts, mut message) = ([0; MAX_STATIONS], [0; MAX_STATIONS]);
+    counts[i] = near_bounds(rng, most - 1) as u16;
+    message[i] = near_bounds(rng, most) as u16;
+    let mut others: Vec<usize> = (0..header.n()).filter(|&k| k != i).collect();
+    rng.shuffle(&mut others);
+    for (at, k) in others.into_iter().enumerate() {
+        let (count, its) = if at < news {
+            let count = near_bounds(rng, most - 1);
+            (count, count + 1 + near_bounds(rng, most - 1 - count))
+        } else {
+            let count = near_bounds(rng, most);
+            (count, near_bounds(rng, count))
+        };
+        (counts[k], message[k]) = (count as u16, its as u16);
+    }
+    (counts, message)
+}
+
+/// A well-formed state of a header's network whose link from j to i holds first
+/// a message that raises just so many of the other counts of station i: at most
+/// n − 1.
+pub fn state_with_news(rng: &mut Rng, header: &Header, i: usize, j: usize, news: usize) -> State {
+    let mut state = any_state_of(rng, header);
+    let (counts, message) = counts_with_news(rng, header, i, news);
+    state.stations[i].counts = counts;
+    let places = usize::from(header.limits[j][i]) + EXTRA_PLACES;
+    let link = &mut state.links[j][i];
+    link.truncate(places - 1);
+    link.push_front(Item::Message(Message {
+        register: any_register(rng),
+        counts: message,
+    }));
+    debug_assert!(state.is_well_formed());
+    state
+}
+
 /// A way to make a state ill formed.
 #[derive(Clone, Copy, Debug, PartialEq, Eq)]
 pub enum StateDamage {

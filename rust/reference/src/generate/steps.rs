@@ -197,6 +197,58 @@ pub fn next_step(rng: &mut Rng, state: &State, habits: &Habits) -> Step {
     wild_step(rng)
 }
 
+/// Links, each as often as it is to be sent on and to be received from. Where
+/// that is uneven, a message is overtaken by way of other stations, and a
+/// station that seldom hears hears of many at once.
+#[derive(Clone, Debug)]
+pub struct Traffic {
+    sends: Vec<(usize, usize)>,
+    receipts: Vec<(usize, usize)>,
+}
+
+impl Traffic {
+    /// Uneven traffic on the links of a header.
+    pub fn any(rng: &mut Rng, header: &Header) -> Traffic {
+        let links: Vec<(usize, usize)> = (0..header.n())
+            .flat_map(|i| header.neighbours(i).map(move |j| (i, j)))
+            .collect();
+        let mut uneven = || -> Vec<(usize, usize)> {
+            let often = |&link| vec![link; rng.pick(&[1, 1, 40])];
+            links.iter().flat_map(often).collect()
+        };
+        Traffic {
+            sends: uneven(),
+            receipts: uneven(),
+        }
+    }
+
+    /// A next step for a state: mostly a send or a receipt, seldom an own entry
+    /// and hardly ever a start.
+    pub fn next_step(&self, rng: &mut Rng, state: &State) -> Step {
+        let register = any_register(rng);
+        let station = rng.index(state.n());
+        let holds = |&&(i, j): &&(usize, usize)| !state.links[i][j].is_empty();
+        let waiting: Vec<(usize, usize)> = self.receipts.iter().filter(holds).copied().collect();
+        match rng.below(200) {
+            0 => Step::Start { station },
+            1..=9 => Step::Enter { station, register },
+            10..=99 if !self.sends.is_empty() => {
+                let (station, peer) = rng.pick(&self.sends);
+                Step::Send {
+                    station,
+                    peer,
+                    register,
+                }
+            }
+            _ if !waiting.is_empty() => {
+                let (peer, station) = rng.pick(&waiting);
+                Step::Recv { station, peer }
+            }
+            _ => Step::Enter { station, register },
+        }
+    }
+}
+
 /// A run of some steps from a state, with habits that change now and then.
 pub fn run_from(rng: &mut Rng, state: State, length: usize) -> Run {
     let mut run = Run::new(state);

@@ -8,15 +8,9 @@ use Rattle.turnover_output.proofs.answer.entry.Tie as tie
 returns : tie.Need-returns
 unfolding entryText
 returns c =
-    let k = c .before .before .before .before .before .before .before in
-    let o = k .before .before .before .before in
-    let a = o .opening .ensures in
-    let b = k .counted .ensures in
-    let d = c .before .before .word .ensures in
-    (text-more (text-more (a .0) (b .0)) d, omega (arith, a .1, b .1, d .next))
+    let a = c .before .before .before .before .before .before .before .entered .ensures in
+    let b = c .before .before .word .ensures in
+    (text-more (a .0) b, omega (arith, a .1, b .next))
 
 pub entry-spec : {M : Type 1} → statement M
-entry-spec =
-    tie.close
-    (tie.spec (λ c. search needs) (λ c κs. search needs) (λ c κs. search needs) (λ c. search needs)
-    (λ c κs. search needs) (λ c. search needs) returns)
+entry-spec = tie.close (tie.spec (λ c κs. search needs) (λ c. search needs) (λ c κs. search needs) (λ c. search needs) returns)

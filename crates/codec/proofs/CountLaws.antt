@@ -1,0 +1,81 @@
+-- Laws of `countBelow`: how many numbers below a bound pass a test. Assumes nothing.
+use Prim.Native.Nat.{ℕ, zero, suc, _+_, _≤_, _<_}
+use mathlib.Core.Path.{_≡_, refl, sym, ap, _∙_}
+use mathlib.Core.Logic.{⊎-elim}
+use mathlib.Core.Bool.{Bool, true, false, true≢false}
+use native.Mathlib.Omega.{arith}
+use native.Mathlib.Numerals.{add-one}
+use native.Mathlib.Nat.{eq-or-lt-of-le}
+use Rattle.codec.specs.Every.{countBelow}
+
+module _ (p : ℕ → Bool) where
+  -- ---- one number more
+  pub count-passed : (n : ℕ) → p n ≡ true → countBelow (n + 1) p ≡ countBelow n p + 1
+  unfolding countBelow
+  count-passed n e = rw (add-one, e) (omega arith)
+
+  pub count-failed : (n : ℕ) → p n ≡ false → countBelow (n + 1) p ≡ countBelow n p
+  unfolding countBelow
+  count-failed n e = rw (add-one, e)
+
+  -- induction, by cases of the test
+  pub grow : (P : ℕ → Type 0) → P 0 → ((n : ℕ) → p n ≡ true → P n → P (n + 1)) → ((n : ℕ) → p n ≡ false → P n → P (n + 1)) → (n : ℕ) → P n
+  grow P z y f zero = z
+  grow P z y f (suc n) = go (p n) refl (grow P z y f n)
+    where
+      go : (t : Bool) → p n ≡ t → P n → P (suc n)
+      go true e h = rw add-one at (y n e h)
+      go false e h = rw add-one at (f n e h)
+
+  -- ---- how many
+  pub count-none : countBelow 0 p ≡ 0
+  unfolding countBelow
+  count-none = refl
+
+  pub count-most : (n : ℕ) → countBelow n p ≤ n
+  count-most =
+      grow (λ (n : ℕ). countBelow n p ≤ n) (omega (arith, count-none))
+      (λ (n : ℕ) (e : p n ≡ true) (h : countBelow n p ≤ n). omega (arith, count-passed n e))
+      (λ (n : ℕ) (e : p n ≡ false) (h : countBelow n p ≤ n). omega (arith, count-failed n e))
+
+  pub count-grows : (k n : ℕ) → k ≤ n → countBelow k p ≤ countBelow n p
+  count-grows k =
+      grow (λ (n : ℕ). k ≤ n → countBelow k p ≤ countBelow n p) (λ (l : k ≤ 0). let e : k ≡ 0 = omega arith in rw e (omega arith))
+      (λ (n : ℕ) (e : p n ≡ true) (h : k ≤ n → countBelow k p ≤ countBelow n p) (l : k ≤ n + 1). step n (omega (arith, count-passed n e)) h l)
+      (λ (n : ℕ) (e : p n ≡ false) (h : k ≤ n → countBelow k p ≤ countBelow n p) (l : k ≤ n + 1). step n (omega (arith, count-failed n e)) h l)
+    where
+      step : (n : ℕ) → countBelow n p ≤ countBelow (n + 1) p → (k ≤ n → countBelow k p ≤ countBelow n p) → k ≤ n + 1 → countBelow k p ≤ countBelow (n + 1) p
+      step n m h l =
+          ⊎-elim (λ (e : k ≡ n + 1). rw e (omega arith)) (λ (b : k < n + 1). omega (arith, h (omega arith))) (eq-or-lt-of-le {n = k} {m = n + 1} l)
+
+  -- a number that passes is one more
+  pub count-room : (k n m : ℕ) → p k ≡ true → k < n → countBelow n p ≤ m → countBelow k p < m
+  count-room k n m e l h = omega (arith, count-passed k e, count-grows (k + 1) n (omega arith))
+
+  -- where one fails, not all pass
+  pub count-misses : (k n : ℕ) → p k ≡ false → k < n → countBelow n p < n
+  count-misses k n f =
+      grow (λ (n : ℕ). k < n → countBelow n p < n) (λ (l : k < 0). absurd (omega arith))
+      (λ (n : ℕ) (e : p n ≡ true) (h : k < n → countBelow n p < n) (l : k < n + 1).
+      ⊎-elim (λ (q : k ≡ n). absurd (true≢false (sym e ∙ (ap p (sym q) ∙ f)))) (λ (b : k < n). omega (arith, h b, count-passed n e)) (eq-or-lt-of-le {n = k} {m = n} (omega arith)))
+      (λ (n : ℕ) (e : p n ≡ false) (h : k < n → countBelow n p < n) (l : k < n + 1). omega (arith, count-most n, count-failed n e)) n
+
+  -- where all fail, none is counted, and the other way round
+  pub count-empty : (n : ℕ) → ((k : ℕ) → k < n → p k ≡ false) → countBelow n p ≡ 0
+  count-empty =
+      grow (λ (n : ℕ). ((k : ℕ) → k < n → p k ≡ false) → countBelow n p ≡ 0) (λ h. count-none)
+      (λ (n : ℕ) (e : p n ≡ true) g (h : (k : ℕ) → k < n + 1 → p k ≡ false). absurd (true≢false (sym e ∙ h n (omega arith))))
+      (λ (n : ℕ) (e : p n ≡ false) (g : ((k : ℕ) → k < n → p k ≡ false) → countBelow n p ≡ 0) (h : (k : ℕ) → k < n + 1 → p k ≡ false). omega (arith, count-failed n e, g (λ (k : ℕ) (l : k < n). h k (omega arith))))
+
+  pub none-counted : (k n : ℕ) → countBelow n p ≡ 0 → k < n → p k ≡ false
+  none-counted k n z l = go (p k) refl
+    where
+      go : (t : Bool) → p k ≡ t → t ≡ false
+      go true e = let h : countBelow k p < 0 = count-room k n 0 e l (omega arith) in absurd (omega arith)
+      go false e = refl
+
+-- two tests that agree count the same
+pub count-same : (n : ℕ) (p q : ℕ → Bool) → ((k : ℕ) → k < n → p k ≡ q k) → countBelow n p ≡ countBelow n q
+unfolding countBelow
+count-same zero p q h = refl
+count-same (suc n) p q h = rw (h n (omega arith), count-same n p q (λ (k : ℕ) (l : k < n). h k (omega arith)))
