@@ -8,7 +8,8 @@ use mathlib.Core.List.{List}
 use lib.Dec.{eqb, ltb}
 use lib.ListN.{length, getD}
 use borrow.Author.Tests.{eq-eqb, ne-eqb, lt-ltb, le-ltb, ltb-false}
-use Rattle.codec.proofs.CountLaws.{count-most, count-misses, count-empty, none-counted, count-same}
+use Rattle.codec.specs.Every.{countBelow}
+use Rattle.codec.proofs.CountLaws.{count-most, count-misses, count-empty, none-counted, count-stops, count-same}
 use Rattle.codec.proofs.PutLaws.{put-other}
 use Rattle.clock.specs.Timestamp.{tick, merged, raised, grewAt, news}
 use Rattle.clock.proofs.MergeLaws.{merged-at}
@@ -36,6 +37,14 @@ news-most i v w h = omega (arith, count-misses (grewAt i v w) i 8 (own-no-news i
 pub news-eight : (i : ℕ) (v w : List ℕ) → news i v w ≤ 8
 unfolding news
 news-eight i v w = count-most (grewAt i v w) 8
+
+-- among n stations there are n - 1 others
+pub news-below : (n i : ℕ) (v w : List ℕ) → i < n → n ≤ 8 → ((k : ℕ) → n ≤ k → k < 8 → getD w k 0 ≡ 0) → news i v w < n
+unfolding news
+news-below n i v w l m z =
+    let p : ℕ → Bool = grewAt i v w in
+    let e : countBelow 8 p ≡ countBelow n p = count-stops p n 8 m (λ (k : ℕ) (a : n ≤ k) (b : k < 8). no-growth i v w k (λ (q : k ≡ i → ⊥). omega (arith, z k a b))) in
+    omega (arith, e, count-misses p i n (own-no-news i v w) l)
 
 -- a test of another station's count, or of the own one
 by-other : (i : ℕ) (p : ℕ → Type 0) (k : ℕ) → (k ≡ i → p k) → ((k ≡ i → ⊥) → p k) → p k

@@ -74,6 +74,15 @@ module _ (p : ℕ → Bool) where
       go true e = let h : countBelow k p < 0 = count-room k n 0 e l (omega arith) in absurd (omega arith)
       go false e = refl
 
+  -- where all from n on fail, no more than those below n are counted
+  pub count-stops : (n m : ℕ) → n ≤ m → ((k : ℕ) → n ≤ k → k < m → p k ≡ false) → countBelow m p ≡ countBelow n p
+  count-stops n =
+      grow (λ (m : ℕ). n ≤ m → ((k : ℕ) → n ≤ k → k < m → p k ≡ false) → countBelow m p ≡ countBelow n p) (λ (l : n ≤ 0) h. let e : n ≡ 0 = omega arith in rw e)
+      (λ (m : ℕ) (e : p m ≡ true) g (l : n ≤ m + 1) (h : (k : ℕ) → n ≤ k → k < m + 1 → p k ≡ false).
+      ⊎-elim (λ (q : n ≡ m + 1). rw q) (λ (b : n < m + 1). absurd (true≢false (sym e ∙ h m (omega arith) (omega arith)))) (eq-or-lt-of-le {n = n} {m = m + 1} l))
+      (λ (m : ℕ) (e : p m ≡ false) (g : n ≤ m → ((k : ℕ) → n ≤ k → k < m → p k ≡ false) → countBelow m p ≡ countBelow n p) (l : n ≤ m + 1) (h : (k : ℕ) → n ≤ k → k < m + 1 → p k ≡ false).
+      ⊎-elim (λ (q : n ≡ m + 1). rw q) (λ (b : n < m + 1). omega (arith, count-failed m e, g (omega arith) (λ (k : ℕ) (x : n ≤ k) (y : k < m). h k x (omega arith)))) (eq-or-lt-of-le {n = n} {m = m + 1} l))
+
 -- two tests that agree count the same
 pub count-same : (n : ℕ) (p q : ℕ → Bool) → ((k : ℕ) → k < n → p k ≡ q k) → countBelow n p ≡ countBelow n q
 unfolding countBelow

@@ -29,12 +29,12 @@ use Rattle.reset.specs.State.{Mode, normal, mute, standBy, Item, message, reset
 use Rattle.reset.specs.Steps.{Step, enter, send, recv, start, Entry, Answer, refused, entry, modeAfter, Outcome, guard, bounded, inBounds, receive, step}
 use Rattle.reset.proofs.Cases.{clash}
 use Rattle.reset.proofs.ConfigLaws.{shape}
-use Rattle.reset.proofs.StepLaws.{news-few}
+use Rattle.reset.proofs.NewsLaws.{news-of-others}
 use Rattle.area.specs.Layout.{configAt, stateAt, test}
 use Rattle.area_calls.specs.Calls.{AreaStep, imaged, stepOn, RestAnswer, yes, no, restOn, restRefused}
 use Rattle.station.specs.Image.{modeByte, modeOf}
 use Rattle.step_parts.specs.Answers.{modeCode, steppedOf}
-use Rattle.step_parts.proofs.Read.{passed, made}
+use Rattle.step_parts.proofs.Read.{Passed, passed, made}
 use Rattle.step_parts.specs.declared.answer.Answer.{Answer as CodeAnswer}
 use Rattle.step_parts.specs.declared.answer.Answer.the-variants.{Refused as NotDone, Entered, InMode}
 use Rattle.host_numbers.specs.Numbers.{Alike, entryMade, tells, modes, counts, stepNumber, restNumber, orderNumber, verdictNumber, blockNumber, countedNumber}
@@ -116,13 +116,20 @@ step-back (modeAfter i m p) l =
 pub steps-distinct : (p q : Step) (a b : List ℕ) → stepNumber (stepOn p a .answer) ≡ stepNumber (stepOn q b .answer) → Alike (stepOn p a .answer) (stepOn q b .answer)
 steps-distinct p q a b e = sym (step-back (stepOn p a .answer) (step-low p a)) ∙ (ap stepAt e ∙ step-back (stepOn q b .answer) (step-low q b))
 
--- an entry's number is 100 to 107
-pub entry-number : (p : Step) (a : List ℕ) (e : Entry) → AreBytes a → stepOn p a .answer ≡ entry e → (entryMade ≤ stepNumber (entry e)) × (stepNumber (entry e) ≤ 107)
+-- the number of entry e is 100 or more, and less than 100 + n, where area a has n stations; so it is 107 at most
+abbrev pub Told : List ℕ → Entry → Type 0
+Told a e = (entryMade ≤ stepNumber (entry e)) × (stepNumber (entry e) < entryMade + configAt a .n) × (stepNumber (entry e) ≤ 107)
+
+pub entry-number : (p : Step) (a : List ℕ) (e : Entry) → AreBytes a → stepOn p a .answer ≡ entry e → Told a e
 unfolding stepOn
 entry-number p a e b = go (test a) refl
   where
-    go : (t : Bool) → test a ≡ t → cond t (imaged (configAt a) (step (configAt a) (stateAt a) p)) (record { answer = refused 2; area = a }) .answer ≡ entry e → (entryMade ≤ stepNumber (entry e)) × (stepNumber (entry e) ≤ 107)
-    go true w h = let f : e .news ≤ 7 = news-few (configAt a) (stateAt a) (shape (configAt a) (made (passed a b w)) .small) p e h in (omega arith, omega arith)
+    go : (t : Bool) → test a ≡ t → cond t (imaged (configAt a) (step (configAt a) (stateAt a) p)) (record { answer = refused 2; area = a }) .answer ≡ entry e → Told a e
+    go true w h =
+        let k : Passed a = passed a b w in
+        let l : e .news < configAt a .n = news-of-others (configAt a) (stateAt a) (k .formed) p e h in
+        let n : configAt a .n ≤ 8 = shape (configAt a) (made k) .small in
+        (omega arith, omega arith, omega arith)
     go false w h = clash (cc)
 
 -- no step on an area answers 11, the refusal of a record area

@@ -51,7 +51,8 @@ abbrev pub counts : ℕ
 counts = 16
 
 -- ---- of each answer
--- a step: 100 + news for an accepted entry, of which only a receipt has news, up to 7; 1,000 + 4 × phase + mode for the mode and phase after; the mode is 0 normal, 1 mute, 2 stand-by
+-- a step: 100 + news for an accepted entry, and news is 0 but for a receipt's, which is up to 7; 1,000 + 4 × phase + mode for the mode and phase
+-- after; the mode is 0 normal, 1 mute, 2 stand-by
 abbrev pub stepNumber : Answer → ℕ
 stepNumber (refused k) = k
 stepNumber (entry e) = entryMade + e .news

@@ -79,6 +79,10 @@ merged-counts c v w h g =
 pub of-small : (c : Config) (i b x : ℕ) → x ≤ ofStation c i b → x ≤ b
 of-small c i b x h = by-test (isStation c i) (λ e. rw e at h) (λ e. let z : x ≤ 0 = rw e at h in omega arith)
 
+-- counts that fit are 0 for stations n and above
+pub none-above : (c : Config) (b : ℕ) (v : List ℕ) → timestampFits c b v ≡ true → (k : ℕ) → k < 8 → isStation c k ≡ false → getD v k 0 ≡ 0
+none-above c b v h = counts-of c v b h .none-above
+
 -- every count of eight that fit is at most the bound
 pub counts-small : (c : Config) (b : ℕ) (v : List ℕ) → timestampFits c b v ≡ true → AtMost b v
 unfolding timestampFits

@@ -15,3 +15,4 @@ pub mod ClockRange
 pub mod FormedParts
 pub mod Formed
 pub mod RestLaws
+pub mod NewsLaws

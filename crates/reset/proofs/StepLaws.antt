@@ -113,7 +113,7 @@ run-bounded c s h [] = h
 run-bounded c s h (p ∷ ps) = run-bounded c (step c s p .after) (step-bounded c s h p) ps
 
 -- ---- an accepted entry's record says which step it was, and in which phase its station stood
-entry-same : (e e′ : Entry) → entry e ≡ entry e′ → e ≡ e′
+pub entry-same : (e e′ : Entry) → entry e ≡ entry e′ → e ≡ e′
 entry-same e e′ h = cc
 
 pub record-bears : {K : Clock} (c : Config) (s : State K) (p : Step) (e : Entry) → step c s p .answer ≡ entry e → Bears s p e

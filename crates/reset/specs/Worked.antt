@@ -176,6 +176,14 @@ row = link 6 7 1 (link 5 6 1 (link 4 5 1 (link 3 4 1 (link 2 3 1 (link 1 2 1 (li
 abbrev pub passedOn : List Step
 passedOn = send 7 6 1 ∷ recv 6 7 ∷ send 6 5 2 ∷ recv 5 6 ∷ send 5 4 3 ∷ recv 4 5 ∷ send 4 3 4 ∷ recv 3 4 ∷ send 3 2 5 ∷ recv 2 3 ∷ send 2 1 6 ∷ recv 1 2 ∷ send 1 0 7 ∷ recv 0 1 ∷ []
 
+-- the news of the receipts among lines, in their order
+abbrev newsIn : List Line → List ℕ
+newsIn [] = []
+newsIn (receiptLine p i v b ∷ l) = b ∷ newsIn l
+newsIn (entryLine p i v ∷ l) = newsIn l
+newsIn (modeLine p i m ∷ l) = newsIn l
+newsIn (noLine k ∷ l) = newsIn l
+
 pub record News : Type 0 where
   -- a message that was overtaken by way of station 2 brings none; the one by that way brought two
   pub nothing-new : lines triangle (send 1 0 1 ∷ send 1 2 2 ∷ recv 2 1 ∷ send 2 0 3 ∷ recv 0 2 ∷ recv 0 1 ∷ [])
@@ -187,8 +195,8 @@ pub record News : Type 0 where
   -- the own count, which the message bears too, is never news: it tells station 0 of 1 alone
   pub own-known : drop 2 (lines triangle (send 0 1 1 ∷ recv 1 0 ∷ send 1 0 2 ∷ recv 0 1 ∷ [])) ≡ entryLine 0 1 (1 ∷ 2 ∷ 0 ∷ []) ∷ receiptLine 0 0 (2 ∷ 2 ∷ 0 ∷ []) 1 ∷ []
   -- passed on along the row, each receipt brings one more, up to all seven others
-  pub all-others : drop 13 (lines row passedOn) ≡ receiptLine 0 0 (1 ∷ 2 ∷ 2 ∷ 2 ∷ 2 ∷ 2 ∷ 2 ∷ 1 ∷ []) 7 ∷ []
+  pub all-others : (newsIn (lines row passedOn) ≡ 1 ∷ 2 ∷ 3 ∷ 4 ∷ 5 ∷ 6 ∷ 7 ∷ []) × (drop 13 (lines row passedOn) ≡ receiptLine 0 0 (1 ∷ 2 ∷ 2 ∷ 2 ∷ 2 ∷ 2 ∷ 2 ∷ 1 ∷ []) 7 ∷ [])
 
 pub news-brought : News
 unfolding lines
-news-brought = record { nothing-new = refl; old-and-new = refl; own-known = refl; all-others = refl }
+news-brought = record { nothing-new = refl; old-and-new = refl; own-known = refl; all-others = (refl, refl) }

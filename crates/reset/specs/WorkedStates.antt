@@ -14,7 +14,7 @@ use Rattle.reset.specs.State.{Mode, normal, mute, standBy, Item, message
 use Rattle.reset.specs.Steps.{Step, enter, send, recv, start}
 use Rattle.reset.specs.Network.{initial, run, stationsQuiescent, linksEmpty, quiescent}
 use Rattle.reset.specs.WellFormed.{sentFits, marksFit, stationFits, linkFits, shapeFits, wellFormed}
-use Rattle.reset.specs.Worked.{net, allow, limitTo, link, Line, entryLine, receiptLine, modeLine, noLine, linesFrom, pair, listing, lone, strict, middle, skewed}
+use Rattle.reset.specs.Worked.{net, allow, limitTo, link, Line, entryLine, receiptLine, modeLine, noLine, linesFrom, pair, listing, lone, strict, middle, skewed, triangle, row}
 
 -- ---- headers
 -- the five network rules, in document 01's order
@@ -43,6 +43,8 @@ pub record Headers : Type 0 where
   pub strict-accepted : (wellMade strict ≡ true) × (networkRules strict ≡ true)
   pub middle-accepted : (wellMade middle ≡ true) × (networkRules middle ≡ true)
   pub winding-accepted : (wellMade winding ≡ true) × (networkRules winding ≡ true)
+  pub triangle-accepted : (wellMade triangle ≡ true) × (networkRules triangle ≡ true)
+  pub row-accepted : (wellMade row ≡ true) × (networkRules row ≡ true)
   -- the sum rule counts both directions of a link, once each
   pub skewed-accepted : (wellMade (skewed 8) ≡ true) × (networkRules (skewed 8) ≡ true)
   -- well made, and one rule broken: 3
@@ -69,6 +71,8 @@ headers =
       strict-accepted = (refl, refl);
       middle-accepted = (refl, refl);
       winding-accepted = (refl, refl);
+      triangle-accepted = (refl, refl);
+      row-accepted = (refl, refl);
       skewed-accepted = (refl, refl);
       skewed-refused = refl;
       ceiling-six = (refl, refl, refl);
