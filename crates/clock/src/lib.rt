@@ -96,15 +96,15 @@ pub fn news(a: [u16; 8], b: [u16; 8], i: usize) -> u8
     ensures { λ r. ⌜ r ≡ News i a b ⌝ }
 {
     let mut grown: u8 = 0;
-    let mut k = 0;
-    while k < 8 {
-        let next = k + 1;
-        if k != i {
-            if a[k] < b[k] {
+    let mut j = 0;
+    while j < 8 {
+        let next = j + 1;
+        if j != i {
+            if a[j] < b[j] {
                 grown += 1;
             }
         }
-        k = next;
+        j = next;
     }
     grown
 }
