@@ -4,7 +4,7 @@ ghost use Prim.Native.Nat.{_+_, _<_, _≤_};
 ghost use lib.ListN.{length, take};
 ghost use Rattle.decimal.specs.Decimal.{spaced};
 ghost use Rattle.turnover_output.specs.TextAt.{TextAt};
-ghost use Rattle.turnover_output.specs.Answer.{opening as Opening, modeWord, entered as Entered, entryText, receiptText, modeText, refusedText, setupText, badText, longestNumbers, longestCounts, longestNews, longestMode, longest};
+ghost use Rattle.turnover_output.specs.Answer.{opening as Opening, modeWord, entryText, receiptText, modeText, refusedText, setupText, badText, longestNumbers, longestCounts, longestMode, longest};
 
 // No line is longer.
 pub const LONGEST: usize = 94;
@@ -45,24 +45,6 @@ fn counted(out: &mut [u8], at: usize, counts: [u16; 8], n: u8) -> usize
     end
 }
 
-// An accepted entry, up to its counts.
-fn entered(
-    out: &mut [u8],
-    at: usize,
-    number: u64,
-    phase: u32,
-    station: u8,
-    counts: [u16; 8],
-    n: u8,
-) -> usize
-    requires { ⌜ at + longest ≤ length (now out) ⌝ }
-    ensures { λ r. ⌜ TextAt (now (out .entry)) at (Entered number phase station counts n) r (now (out .exit)) ⌝ }
-    ensures { λ r. ⌜ r + longestNews + 1 ≤ at + longest ⌝ }
-{
-    let a = opening(out, at, number, b" entry ", phase, station);
-    counted(out, a, counts, n)
-}
-
 // An accepted entry that is no receipt.
 pub fn entry(
     out: &mut [u8],
@@ -77,8 +59,9 @@ pub fn entry(
     ensures { λ r. ⌜ TextAt (now (out .entry)) at (entryText number phase station counts n) r (now (out .exit)) ⌝ }
     ensures { λ r. ⌜ r ≤ at + longest ⌝ }
 {
-    let a = entered(out, at, number, phase, station, counts, n);
-    crate::text::word(out, a, b"\n")
+    let a = opening(out, at, number, b" entry ", phase, station);
+    let b = counted(out, a, counts, n);
+    crate::text::word(out, b, b"\n")
 }
 
 // A receipt, with its news.
@@ -96,10 +79,11 @@ pub fn receipt(
     ensures { λ r. ⌜ TextAt (now (out .entry)) at (receiptText number phase station counts n news) r (now (out .exit)) ⌝ }
     ensures { λ r. ⌜ r ≤ at + longest ⌝ }
 {
-    let a = entered(out, at, number, phase, station, counts, n);
-    let b = crate::text::word(out, a, b" ");
-    let c = crate::text::number(out, b, news as u64);
-    crate::text::word(out, c, b"\n")
+    let a = opening(out, at, number, b" entry ", phase, station);
+    let b = counted(out, a, counts, n);
+    let c = crate::text::word(out, b, b" ");
+    let d = crate::text::number(out, c, news as u64);
+    crate::text::word(out, d, b"\n")
 }
 
 fn mode_word(out: &mut [u8], at: usize, mode: u8) -> usize
