@@ -1,6 +1,6 @@
 -- The header's fields (document 01, "The network"), how they are read, and the two tests of a header: well made (else number 1), and the network rules
 -- (else number 3). Assumes nothing.
-use Prim.Native.Nat.{ℕ, zero, _+_}
+use Prim.Native.Nat.{ℕ, _+_}
 use mathlib.Core.List.{List, []}
 use mathlib.Core.Bool.{Bool, cond, _&&_, _||_, Bool·beq}
 use lib.Dec.{eqb, leb, ltb}
