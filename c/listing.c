@@ -233,7 +233,8 @@ static void try_refusals(void) {
     put_long(station_0 + 40, 999999);
     refused_step("a start in the last phase", (struct step){START, 0, 0, 0}, MELONTIME_REFUSED_LAST_PHASE);
     station_0[0] = 7;
-    refused_step("an entry at the ceiling", (struct step){ENTER, 0, 0, 1}, MELONTIME_REFUSED_BEYOND_BOUND);
+    refused_step("an entry at the ceiling", (struct step){ENTER, 0, 0, 1},
+                 MELONTIME_REFUSED_ILL_FORMED_STATE);
     station_0[0] = 8;
     refused_step("an entry above the ceiling", (struct step){ENTER, 0, 0, 1},
                  MELONTIME_REFUSED_ILL_FORMED_STATE);

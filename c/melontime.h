@@ -33,17 +33,22 @@ enum {
     MELONTIME_MAX_RECORDS = 15 /* of an entries block */
 };
 
-/* Refusals: the same numbers for all calls. */
+/* Refusals: the same numbers for all calls.
+
+   A step has 2 for two causes. Before all others but 11, the area is no image of
+   a well-formed state. After all others, it is one that no steps on an initial
+   network lead to, and after the step a link would hold more than its limit and
+   2 items, a count would be above the ceiling, or a phase above 999,999. On an
+   area that setup has made and only steps have changed, no step has 2. */
 enum {
     MELONTIME_REFUSED_MALFORMED = 1,         /* block, record or archive: length, check, field or spare byte */
-    MELONTIME_REFUSED_ILL_FORMED_STATE = 2,  /* the area is no image of a well-formed state */
+    MELONTIME_REFUSED_ILL_FORMED_STATE = 2,  /* the area is no well-formed state, or a step would leave a bound */
     MELONTIME_REFUSED_NETWORK_RULE = 3,      /* a well-made header breaks a network rule */
     MELONTIME_REFUSED_NO_SUCH_STATION = 4,   /* no such station, or the peer is no neighbour */
     MELONTIME_REFUSED_MODE_FORBIDS = 5,      /* the station's mode forbids the send or start */
     MELONTIME_REFUSED_USED_UP = 6,           /* the allowance, or the link's limit, of this phase */
     MELONTIME_REFUSED_EMPTY_LINK = 7,        /* there is nothing to receive */
     MELONTIME_REFUSED_LAST_PHASE = 8,        /* start in phase 999,999 */
-    MELONTIME_REFUSED_BEYOND_BOUND = 9,      /* an item, count or phase after the step */
     MELONTIME_REFUSED_DIFFERENT_PHASES = 10, /* a verdict on records of different phases */
     MELONTIME_REFUSED_AREA_LENGTH = 11,      /* a buffer or list too small, or not as long as asked */
     MELONTIME_REFUSED_NO_SUCH_RECORD = 12    /* no record of this number; 0 or over 15 records to write */

@@ -1,11 +1,11 @@
--- Demand 3 and rest over areas: each step is lent the area as the step before left it. Assumes nothing.
+-- Demand 3, rest, and that no step is answered with 2, over areas: each step is lent the area as the step before left it. Assumes nothing.
 use Prim.Native.Nat.{ℕ}
 use mathlib.Core.Path.{_≡_}
-use mathlib.Core.Logic.{_↔_}
+use mathlib.Core.Logic.{_↔_, _≢_}
 use mathlib.Core.List.{List, [], _∷_}
 use mathlib.Core.Bool.{true}
 use Rattle.codec.specs.Num.{AreBytes}
-use Rattle.reset.specs.Steps.{Step}
+use Rattle.reset.specs.Steps.{Step, refused}
 use Rattle.reset.specs.Network.{Answered, stationsQuiescent}
 use Rattle.reset.specs.WellFormed.{StepsFit}
 use Rattle.rules.specs.Setup.{blockConfig}
@@ -43,3 +43,9 @@ RestTells =
     (block a : List ℕ) → AreBytes block → setupOn block a .answer ≡ 0 → (ps : List Step) → StepsFit ps
     → (restOn (runOn (setupOn block a .buffer) ps) ≡ yes)
     ↔ ((stationsQuiescent (blockConfig block) (stateAt (runOn (setupOn block a .buffer) ps)) ≡ true) × AllReceived (accepted (logOn (setupOn block a .buffer) ps)))
+
+-- ---- after a setup that is accepted, no step in any list is answered with 2: not the next one, p, whatever list was before it
+abbrev pub NeverTwo : Type 0
+NeverTwo =
+    (block a : List ℕ) → AreBytes block → setupOn block a .answer ≡ 0 → (ps : List Step) → StepsFit ps
+    → (p : Step) → stepOn p (runOn (setupOn block a .buffer) ps) .answer ≢ refused 2

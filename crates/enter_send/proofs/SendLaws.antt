@@ -41,13 +41,13 @@ module _ (c : Config) (s : State vector) (w : wellFormed c s ≡ true) (i j g : 
     yes : Accepted → Sent 0
 
   decide : (m u f r : Bool) → maySend (x .mode) (doneSeen x j) ≡ m → leb most (sentTo x j) ≡ u → leb (c .t) (getD (x .time) i 0) ≡ f → leb (most + 2) held ≡ r
-      → Sent (cond m (cond u 6 (cond f 9 (cond r 9 0))) 5)
+      → Sent (cond m (cond u 6 (cond f 2 (cond r 2 0))) 5)
   unfolding limitAt
   decide false u f r p q v e = no {k = 5} (λ z. omega arith) (send-forbidden c s w i j g h n p)
   decide true true f r p q v e = no {k = 6} (λ z. omega arith) (send-used-up c s w i j g h n p (leb-true _ _ q))
-  decide true false true r p q v e = no {k = 9} (λ z. omega arith) (send-full c s w i j g h n p (leb-false _ _ q) (leb-true _ _ v))
+  decide true false true r p q v e = no {k = 2} (λ z. omega arith) (send-full c s w i j g h n p (leb-false _ _ q) (leb-true _ _ v))
   decide true false false true p q v e =
-      no {k = 9} (λ z. omega arith) (send-no-room c s w i j g h n p (leb-false _ _ q) (leb-false _ _ v) (omega (arith, size, leb-true (most + 2) held e)))
+      no {k = 2} (λ z. omega arith) (send-no-room c s w i j g h n p (leb-false _ _ q) (leb-false _ _ v) (omega (arith, size, leb-true (most + 2) held e)))
   decide true false false false p q v e =
       let r = leb-false (most + 2) held e in
       yes (record { done = send-done c s w i j g h n p (leb-false _ _ q) (leb-false _ _ v) (omega (arith, size)); count = leb-false _ _ v; sent = leb-false _ _ q; room = r })

@@ -14,11 +14,11 @@ use Rattle.area.specs.Layout.{image}
 use Rattle.step_parts.specs.Answers.{steppedOf}
 use Rattle.step_parts.specs.declared.answer.Stepped.{Stepped}
 
--- the refusal of a send from i, whose record is x, to its neighbour j, with the ceiling t, the link's limit and the items on it: 5, 6, 9, or 0 for none
+-- the refusal of a send from i, whose record is x, to its neighbour j, with the ceiling t, the link's limit and the items on it: 5, 6, 2, or 0 for none
 unfoldable pub sendRefusal : Station vector → ℕ → ℕ → ℕ → ℕ → ℕ → ℕ
 sendRefusal x t limit count i j =
     cond (maySend (x .mode) (doneSeen x j))
-    (cond (leb limit (sentTo x j)) 6 (cond (leb t (getD (x .time) i 0)) 9 (cond (leb (placesOf limit) count) 9 0)))
+    (cond (leb limit (sentTo x j)) 6 (cond (leb t (getD (x .time) i 0)) 2 (cond (leb (placesOf limit) count) 2 0)))
     5
 
 -- the entry of a send, and the area after it

@@ -33,16 +33,16 @@ pub fn enter(area: &mut [u8], station: u32, register: u32) -> Stepped
     }
     let counts = s.counts;
     if h.t <= counts[i] {
-        return answer::refused(refusals::BEYOND_BOUND);
+        return answer::refused(refusals::ILL_FORMED_STATE);
     }
-    let x = reset_rules::entered(s, i);
-    parts::put_station(area, i, x);
+    let after = reset_rules::entered(s, i);
+    parts::put_station(area, i, after);
     answer::entry(
         answer::OWN,
         station as u8,
         answer::NO_PEER,
         register,
-        x,
+        after,
         answer::NO_NEWS,
     )
 }
@@ -57,7 +57,7 @@ fn may_send(mode: Mode, done: bool) -> bool
     }
 }
 
-// Which refusal a send over a link meets, 0 for none: 5, 6, 9.
+// Which refusal a send over a link meets, 0 for none: 5, 6, 2.
 fn send_refusal(s: Station, t: u16, limit: u8, count: u8, i: usize, j: usize) -> u8
     requires { ⌜ (i < 8) × (j < 8) × (limit ≤ 32) ⌝ }
     ensures { λ r. ⌜ r ≡ sendRefusal (stationView s) t limit count i j ⌝ }
@@ -73,10 +73,10 @@ fn send_refusal(s: Station, t: u16, limit: u8, count: u8, i: usize, j: usize) ->
     }
     let counts = s.counts;
     if t <= counts[i] {
-        return refusals::BEYOND_BOUND;
+        return refusals::ILL_FORMED_STATE;
     }
     if link::places(limit) <= codec::wide32(count) {
-        return refusals::BEYOND_BOUND;
+        return refusals::ILL_FORMED_STATE;
     }
     0
 }

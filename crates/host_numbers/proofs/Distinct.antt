@@ -2,8 +2,8 @@
 use Prim.Native.Nat.{ℕ, _<_, _≤_, _+_, _*_, _-_, _/_, _%_}
 use native.Mathlib.Omega.{arith}
 use mathlib.Core.Path.{_≡_, refl, sym, ap, _∙_}
-use mathlib.Core.List.{List, [], _∷_}
-use mathlib.Core.Bool.{Bool, true, false, not, cond, _&&_}
+use mathlib.Core.List.{List}
+use mathlib.Core.Bool.{Bool, true, false, cond, _&&_}
 use lib.Dec.{eqb, ltb}
 use borrow.Author.Tests.{lt-ltb, le-ltb}
 use Rattle.codec.specs.Num.{AreBytes}
@@ -25,11 +25,12 @@ use Rattle.concurrent.specs.Unordered.{unorderedCount, unorderedAnswer}
 use Rattle.reset.specs.Network.{quiescent}
 use Rattle.reset.specs.Config.{Config}
 use Rattle.reset.specs.Clock.{vector}
-use Rattle.reset.specs.State.{Mode, normal, mute, standBy, Item, message, resetReq, resetDone, State, linkAt}
-use Rattle.reset.specs.Steps.{Step, enter, send, recv, start, Entry, Answer, refused, entry, modeAfter, Outcome, guard, bounded, inBounds, receive, step}
+use Rattle.reset.specs.State.{Mode, normal, mute, standBy, State}
+use Rattle.reset.specs.Steps.{Step, Entry, Answer, refused, entry, modeAfter, Outcome, bounded, step}
 use Rattle.reset.proofs.Cases.{clash}
 use Rattle.reset.proofs.ConfigLaws.{shape}
 use Rattle.reset.proofs.NewsLaws.{news-of-others}
+use Rattle.reset.proofs.StepLaws.{within, of-attempt}
 use Rattle.area.specs.Layout.{configAt, stateAt, test}
 use Rattle.area_calls.specs.Calls.{AreaStep, imaged, stepOn, RestAnswer, yes, no, restOn, restRefused}
 use Rattle.station.specs.Image.{modeByte, modeOf}
@@ -55,32 +56,27 @@ told-rest : (n : ℕ) → tells + n - tells ≡ n
 told-rest n = omega arith
 
 -- ---- steps
--- a refusal's number is below 10, and news at most 8
+-- a refusal's number is at most 8, and so is news
 abbrev pub Low : Answer → Type 0
-Low (refused k) = k < 10
+Low (refused k) = k ≤ 8
 Low (entry e) = e .news ≤ 8
 Low (modeAfter i m p) = Unit {0}
 
-guarded : (s : State vector) (t : Bool) (k : ℕ) (o : Outcome vector) → k < 10 → Low (o .answer) → Low (guard s t k o .answer)
-unfolding guard
-guarded s true k o h l = h
-guarded s false k o h l = l
-
-within-bounds : (c : Config) (s : State vector) (o : Outcome vector) → Low (o .answer) → Low (bounded c s o .answer)
-unfolding bounded
-within-bounds c s o l = guarded s (not (inBounds c (o .after))) 9 o (omega arith) l
-
-received : (c : Config) (i j : ℕ) (s : State vector) (q : List (Item vector)) → Low (receive c i j s q .answer)
-received c i j s [] = omega arith
-received c i j s (message w g ∷ q) = within-bounds c s _ (news-eight i _ _)
-received c i j s (resetReq ∷ q) = within-bounds c s _ tt
-received c i j s (resetDone ∷ q) = within-bounds c s _ tt
+-- an outcome that a bound may still refuse
+still-low : (c : Config) (s : State vector) (o : Outcome vector) → Low (o .answer) → Low (bounded c s o .answer)
+still-low c s o l = within c s (λ (o : Outcome vector). Low (o .answer)) o (omega arith) (λ b. l)
 
 stepped : (c : Config) (s : State vector) (p : Step) → Low (step c s p .answer)
-stepped c s (enter i g) = guarded s _ 4 _ (omega arith) (guarded s _ 6 _ (omega arith) (within-bounds c s _ (omega arith)))
-stepped c s (send i j g) = guarded s _ 4 _ (omega arith) (guarded s _ 4 _ (omega arith) (guarded s _ 5 _ (omega arith) (guarded s _ 6 _ (omega arith) (within-bounds c s _ (omega arith)))))
-stepped c s (recv i j) = guarded s _ 4 _ (omega arith) (guarded s _ 4 _ (omega arith) (received c i j s (linkAt s j i)))
-stepped c s (start i) = guarded s _ 4 _ (omega arith) (guarded s _ 5 _ (omega arith) (guarded s _ 8 _ (omega arith) (within-bounds c s _ tt)))
+stepped c s =
+    of-attempt c s (λ p o. Low (o .answer)) (λ p k a b. omega arith)
+    (record {
+      own = λ i g si l. still-low c s _ (omega arith);
+      sent = λ i j g si ij m l. still-low c s _ (omega arith);
+      received = λ i j w g q si ij e. still-low c s _ (news-eight i _ _);
+      req = λ i j q si ij e. still-low c s _ tt;
+      done = λ i j q si ij e. still-low c s _ tt;
+      started = λ i si m l. still-low c s _ tt;
+    })
 
 -- what a step on an area can answer
 pub step-low : (p : Step) (a : List ℕ) → Low (stepOn p a .answer)

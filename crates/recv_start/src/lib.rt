@@ -29,7 +29,7 @@ fn take_control(area: &mut [u8], limits: [[u8; 8]; 8], x: Station, i: usize, j: 
     let t = reset_rules::turn(limits, i, x);
     let row = limits[i];
     if !turned::in_bounds(&area[..], row, i, t) {
-        return answer::refused(refusals::BEYOND_BOUND);
+        return answer::refused(refusals::ILL_FORMED_STATE);
     }
     parts::take_at(area, j, i);
     turned::settle(area, limits, i, t)
@@ -42,7 +42,7 @@ fn take_message(area: &mut [u8], t: u16, s: Station, x: Item, i: usize, j: usize
 {
     let counts = s.counts;
     if t <= counts[i] {
-        return answer::refused(refusals::BEYOND_BOUND);
+        return answer::refused(refusals::ILL_FORMED_STATE);
     }
     let theirs = x.counts;
     let y = reset_rules::receiving(s, i, theirs);
@@ -113,7 +113,7 @@ pub fn start(area: &mut [u8], station: u32) -> Stepped
     let t = reset_rules::start(limits, i, s);
     let row = limits[i];
     if !turned::in_bounds(&area[..], row, i, t) {
-        return answer::refused(refusals::BEYOND_BOUND);
+        return answer::refused(refusals::ILL_FORMED_STATE);
     }
     turned::settle(area, limits, i, t)
 }

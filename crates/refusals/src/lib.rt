@@ -1,9 +1,10 @@
-// The numbers of refusals, each with its cause, as document 01's table has them.
+// The numbers of refusals, each with its cause, as document 01's table has them; 9 is none (document 02).
 
 // A block, record or archive of a wrong length, check, field or spare byte.
 pub const MALFORMED: u8 = 1;
 
-// A state area of another length, or no image of a well-formed state.
+// A state area of another length, or no image of a well-formed state; or one that no initial network reaches, where a step would leave an item, count or
+// phase beyond its bound.
 pub const ILL_FORMED_STATE: u8 = 2;
 
 // A well-made header breaks a network rule.
@@ -23,9 +24,6 @@ pub const EMPTY_LINK: u8 = 7;
 
 // A start in the last phase.
 pub const NO_MORE_PHASES: u8 = 8;
-
-// The state after would have an item, count or phase beyond its bound.
-pub const BEYOND_BOUND: u8 = 9;
 
 // Records of different phases.
 pub const DIFFERENT_PHASES: u8 = 10;

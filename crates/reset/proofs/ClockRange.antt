@@ -21,7 +21,7 @@ use Rattle.reset.proofs.Cases.{by-test}
 abbrev pub AtMost : ℕ → List ℕ → Type 0
 AtMost b v = (k : ℕ) → k < 8 → getD v k 0 ≤ b
 
--- `Held` is what a time in range keeps while a step changes it; with number 9's bounds, which are tested of the state after, it is in range again.
+-- `Held` is what a time in range keeps while a step changes it; with the bounds, which are tested of the state after, it is in range again.
 pub record ClockRange (K : Clock) : Type 1 where
   pub Held : Config → ℕ → K .Time → Type 0
   pub held : (c : Config) (i : ℕ) (v : K .Time) → K .timeFits c i v ≡ true → Held c i v

@@ -44,9 +44,8 @@ module _ {K : Clock} (c : Config) (s : State K) (r : Rests c s) where
 
   rests-step : (p : Step) → Rests c (step c s p .after)
   rests-step =
-      of-step c s (λ p o. Rests c (o .after))
+      of-step c s (λ p o. Rests c (o .after)) (λ p k. r)
       (record {
-        refusal = λ p k. r;
         own = λ i g si l b. rests-same i _ (rw station-set) (λ k n. station-set-other s i _ k n);
         sent = λ i j g si ij m l b. rests-same i _ (rw (station-set-link, station-set)) (λ k n. station-set-link _ i j _ k ∙ station-set-other s i _ k n);
         received = λ i j w g q si ij e b. rests-same i _ (rw (station-set-link, station-set)) (λ k n. station-set-link _ j i q k ∙ station-set-other s i _ k n);

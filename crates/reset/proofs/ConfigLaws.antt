@@ -1,5 +1,5 @@
 -- What a well-made header, and one that keeps the network rules, says of its stations and links. Assumes nothing.
-use Prim.Native.Nat.{ℕ, _≤_, _<_}
+use Prim.Native.Nat.{ℕ, _+_, _≤_, _<_}
 use mathlib.Core.Path.{_≡_, sym}
 use mathlib.Core.Logic.{_≢_, _↔_}
 use mathlib.Core.List.{[]}
@@ -9,11 +9,11 @@ use native.Mathlib.Decide.{decLt}
 use lib.Dec.{eqb, leb, ltb}
 use lib.ListN.{length, getD, List·getD-eq-default}
 use borrow.Author.Tests.{eqb-true, eqb-false, ltb-true, leb-true, not-true}
-use Rattle.codec.specs.Every.{every}
+use Rattle.codec.specs.Every.{every, sum}
 use Rattle.codec.proofs.EveryLaws.{both, every-at}
 use Rattle.reset.specs.Reach.{limit, linked, Reached, everyReached}
 use Rattle.reset.proofs.ReachLaws.{test-reached, reached-test}
-use Rattle.reset.specs.Config.{Config, isStation, neighbours, sizeFits, allowancesFit, limitFits, rowFits, limitsFit, wellMade, zeroAt, zeroDiagonal, bothOrNone, linkedBothWays, allowanceBelow, limitBelow, nothingAbove, networkRules}
+use Rattle.reset.specs.Config.{Config, isStation, neighbours, sizeFits, allowancesFit, limitFits, rowFits, limitsFit, wellMade, zeroAt, zeroDiagonal, bothOrNone, linkedBothWays, allowanceBelow, limitBelow, nothingAbove, between, withinAt, withinCeiling, networkRules}
 use Rattle.reset.proofs.Cases.{by-test, by-dec, clash}
 
 -- the ranges and lengths of a well-made header
@@ -132,3 +132,13 @@ module _ (c : Config) (u : Rules c) (i j : ℕ) (h : neighbours c i j ≡ true) 
 
   pub not-itself : j ≢ i
   not-itself e = u .loopless i (rw e at h)
+
+-- the sum rule
+pub within-sum : (c : Config) → networkRules c ≡ true → (i : ℕ) → i < 8 → getD (c .allowances) i 0 + sum 8 (between (c .limits) i) ≤ c .t
+unfolding networkRules withinCeiling
+within-sum c r i l =
+    let a = both (zeroDiagonal (c .limits)) _ r in
+    let b = both (linkedBothWays (c .limits)) _ (a .1) in
+    let d = both (nothingAbove (c .n) (c .allowances) (c .limits)) _ (b .1) in
+    let e = both (everyReached (c .n) (c .limits)) _ (d .1) in
+    leb-true _ _ (every-at 8 (withinAt (c .t) (c .allowances) (c .limits)) i (e .1) l)

@@ -1,8 +1,9 @@
 -- The items of a link, walked from what its receiver has taken to what its sender has put. Assumes nothing.
-use Prim.Native.Nat.{ℕ, suc, _≤_}
-use mathlib.Core.Path.{_≡_, ap}
+use Prim.Native.Nat.{ℕ, suc, _+_, _≤_, _<_}
+use mathlib.Core.Path.{_≡_, refl, ap}
 use mathlib.Core.List.{List, [], _∷_, _++_}
 use native.Mathlib.Omega.{arith}
+use lib.ListN.{length}
 use Rattle.reset.specs.Clock.{Clock}
 use Rattle.reset.specs.State.{Item, message, resetReq, resetDone}
 use Rattle.reset.proofs.Changes.{Tagged, tags}
@@ -14,6 +15,13 @@ Flow p r e [] R E = (r ≡ R) × (e ≡ E)
 Flow p r e (message w g ∷ q) R E = (e ≡ suc r) × (r ≤ p) × Flow p r e q R E
 Flow p r e (resetReq ∷ q) R E = (e ≡ suc r) × Flow p (suc r) e q R E
 Flow p r e (resetDone ∷ q) R E = (e ≡ r) × Flow p r (suc e) q R E
+
+-- how many of the items are messages
+abbrev pub messages : {K : Clock} → List (Item K) → ℕ
+messages [] = 0
+messages (message w g ∷ q) = suc (messages q)
+messages (resetReq ∷ q) = messages q
+messages (resetDone ∷ q) = messages q
 
 module _ {K : Clock} where
   -- what was taken is at most what was put
@@ -49,3 +57,23 @@ module _ {K : Clock} where
       ap {B = List (Tagged K)} (λ l. record { phase = r; load = w; register = g } ∷ l) (tags-append p r e q q′ R E (h .2))
   tags-append p r e (resetReq ∷ q) q′ R E h = tags-append p (suc r) e q q′ R E (h .1)
   tags-append p r e (resetDone ∷ q) q′ R E h = tags-append p r (suc e) q q′ R E (h .1)
+
+  -- the items that are no messages are the control items put and not taken
+  pub flow-length : (p r e : ℕ) (q : List (Item K)) (R E : ℕ) → Flow p r e q R E → length q + (r + e) ≡ messages q + (R + E)
+  flow-length p r e [] R E h = omega arith
+  flow-length p r e (message w g ∷ q) R E h = omega (arith, flow-length p r e q R E (h .2))
+  flow-length p r e (resetReq ∷ q) R E h = omega (arith, flow-length p (suc r) e q R E (h .1))
+  flow-length p r e (resetDone ∷ q) R E h = omega (arith, flow-length p r (suc e) q R E (h .1))
+
+  -- where the next reset_req is taken, no message lies
+  pub flow-past : (p r e : ℕ) (q : List (Item K)) (R E : ℕ) → p < r → Flow p r e q R E → messages q ≡ 0
+  flow-past p r e [] R E l h = refl
+  flow-past p r e (message w g ∷ q) R E l h = absurd (omega arith)
+  flow-past p r e (resetReq ∷ q) R E l h = flow-past p (suc r) e q R E (omega arith) (h .1)
+  flow-past p r e (resetDone ∷ q) R E l h = flow-past p r (suc e) q R E l (h .1)
+
+  pub messages-append : (q q′ : List (Item K)) → messages (q ++ q′) ≡ messages q + messages q′
+  messages-append [] q′ = omega arith
+  messages-append (message w g ∷ q) q′ = omega (arith, messages-append q q′)
+  messages-append (resetReq ∷ q) q′ = messages-append q q′
+  messages-append (resetDone ∷ q) q′ = messages-append q q′

@@ -69,7 +69,7 @@ module _ {K : Clock} (c : Config) (i j : ℕ) (q : List (Item K)) where
   unfolding linkFits
   link-fits l f = join (leb (length q) (places c i j)) _ l (every-of (length q) (itemFitsAt c q) (λ k kl. f k))
 
--- ---- number 9's bounds, part by part
+-- ---- the bounds, part by part
 pub record Bounds {K : Clock} (c : Config) (s : State K) : Type 0 where
   pub phases : (i : ℕ) → i < 8 → phaseBounded s i ≡ true
   pub counts : (i k : ℕ) → i < 8 → k < 8 → countBounded c s i k ≡ true
@@ -188,9 +188,8 @@ module _ {K : Clock} (L : ClockRange K) (c : Config) (s : State K) (h : Formed c
 
   formed-step : (p : Step) → stepFits p ≡ true → Formed c (step c s p .after)
   formed-step =
-      of-step c s (λ p o. stepFits p ≡ true → Formed c (o .after))
+      of-step c s (λ p o. stepFits p ≡ true → Formed c (o .after)) (λ p k z. h)
       (record {
-        refusal = λ p k z. h;
         own = λ i g si l b z. formed-enter i si g l b;
         sent = λ i j g si ij m l b z. formed-send i si j ij g z l b;
         received = λ i j w g q si ij e b z. formed-receive i si j ij w g q e b;

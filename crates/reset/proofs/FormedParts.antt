@@ -1,4 +1,4 @@
--- Well formed, part by part: the tests as facts, and how each change of a state keeps them. Number 9's bounds are apart, for they are tested of the state
+-- Well formed, part by part: the tests as facts, and how each change of a state keeps them. The bounds are apart, for they are tested of the state
 -- after a step, not of those on the way. Assumes nothing.
 use Prim.Native.Nat.{ℕ, zero, suc, _≤_, _<_}
 use mathlib.Core.Path.{_≡_, refl, sym, ap, _∙_}

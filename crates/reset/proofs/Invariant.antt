@@ -4,7 +4,7 @@ use Prim.Native.Nat.{ℕ, suc, _≤_}
 use mathlib.Core.Path.{_≡_, refl, sym, _∙_}
 use mathlib.Core.Logic.{_≢_}
 use mathlib.Core.List.{List, [], _∷_, _++_, append-nil}
-use mathlib.Core.Bool.{true}
+use mathlib.Core.Bool.{true, false}
 use native.Mathlib.Omega.{arith}
 use native.Mathlib.Decide.{ℕ-discrete}
 use Rattle.reset.specs.Config.{Config, neighbours}
@@ -48,6 +48,7 @@ pub record Puts {K : Clock} (c : Config) (i : ℕ) (s s′ : State K) (out : ℕ
   pub others : (k : ℕ) → k ≢ i → stationAt s′ k ≡ stationAt s k
   pub kept : (a b : ℕ) → a ≢ i → linkAt s′ a b ≡ linkAt s a b
   pub onto : (b : ℕ) → neighbours c i b ≡ true → linkAt s′ i b ≡ linkAt s i b ++ out b
+  pub apart : (b : ℕ) → neighbours c i b ≡ false → linkAt s′ i b ≡ linkAt s i b
   pub up : stationAt s i .phase ≤ stationAt s′ i .phase
   pub head-reqs : (j : ℕ) → neighbours c i j ≡ true → reqsTaken (stationAt s′ i) j ≡ reqsTaken (stationAt s i) j
   pub head-dones : (j : ℕ) → neighbours c i j ≡ true → donesTaken (stationAt s′ i) j ≡ donesTaken (stationAt s i) j

@@ -16,14 +16,14 @@ use Rattle.reset.proofs.ConfigLaws.{Rules, neighbour-small}
 use Rattle.reset.specs.Clock.{Clock}
 use Rattle.reset.specs.State.{normal, mute, standBy, Item, resetReq, resetDone, Station, State, stationAt, linkAt, reqSeen, doneSeen, setStation, putOnAll, Mode, message, setLink}
 use Rattle.reset.specs.Steps.{everyNeighbour, begun, renewed, woken, beginReset, renew, wake, Rule, ruleA, ruleB, ruleC, noRule, ruleOf, apply, turnOnce, turn, send, recv, entered, sending, maySend, doSend, receiving, doReceive, withReq, withDone}
-use Rattle.reset.proofs.Views.{none-at, station-set, station-set-other, link-set-station, station-put-all, link-put-all, link-put-all-row, station-set-link, link-set, link-set-row, link-set-col}
+use Rattle.reset.proofs.Views.{none-at, station-set, station-set-other, link-set-station, station-put-all, link-put-all, link-put-all-far, link-put-all-row, station-set-link, link-set, link-set-row, link-set-col}
 use Rattle.reset.proofs.TurnLaws.{Tested, rule-tested}
 use Rattle.reset.proofs.Changes.{muted, target, reqsTaken, donesTaken, Tagged, tags, waiting, sentOn, firstWith, gotOn}
 use Rattle.reset.proofs.Flow.{Flow, flow-reqs, flow-dones}
 use Rattle.reset.proofs.Invariant.{Invariant, Maintained, kept-still, kept-then, Puts, puts-quiet, Carries, target-near, phase-near, puts-keeps, puts-waiting, puts-still, TakesOff, takes-keeps, takes-waiting, takes-still}
 use Rattle.reset.proofs.Cases.{clash, by-dec}
 
-every-neighbour-at : (c : Config) → Rules c → (i : ℕ) (p : ℕ → Bool) → everyNeighbour c i p ≡ true → (j : ℕ) → neighbours c i j ≡ true → p j ≡ true
+pub every-neighbour-at : (c : Config) → Rules c → (i : ℕ) (p : ℕ → Bool) → everyNeighbour c i p ≡ true → (j : ℕ) → neighbours c i j ≡ true → p j ≡ true
 unfolding everyNeighbour
 every-neighbour-at c u i p h j k = rw k at (every-at 8 (λ (m : ℕ). not (neighbours c i m) || p m) j h (neighbour-small c u i j k))
 
@@ -41,6 +41,7 @@ module _ {K : Clock} (c : Config) (u : Rules c) (i : ℕ) (s : State K) where
         others = λ k n. station-put-all c _ i y k ∙ station-set-other s i x k n;
         kept = λ a b n. link-put-all-row c _ i y a b n ∙ link-set-station s i x a b;
         onto = λ b h. link-put-all c _ i y b (neighbour-small c u i b h) h ∙ ap (λ (l : List (Item K)). l ++ (y ∷ [])) (link-set-station s i x i b);
+        apart = λ b h. link-put-all-far c _ i y b h ∙ link-set-station s i x i b;
         up = rw (station-put-all, station-set) up;
         head-reqs = rw (station-put-all, station-set) r;
         head-dones = rw (station-put-all, station-set) e;
@@ -48,25 +49,26 @@ module _ {K : Clock} (c : Config) (u : Rules c) (i : ℕ) (s : State K) where
         seen′ = rw (station-put-all, station-set) d;
       }
 
-  pub begin-keeps : stationAt s i .mode ≡ normal → Invariant c s → Maintained c s (beginReset c i s)
+  pub puts-begin : stationAt s i .mode ≡ normal → Invariant c s → Puts c i s (beginReset c i s) (λ b. resetReq ∷ [])
   unfolding beginReset
-  begin-keeps h v =
-      puts-quiet c u i s _ _ v
-      (puts-all (begun (stationAt s i)) resetReq (omega arith) (λ j k. refl)
+  puts-begin h v =
+      puts-all (begun (stationAt s i)) resetReq (omega arith) (λ j k. refl)
       (λ j k. rw (none-at, h, v .seen i j k h) (omega arith))
       (λ b. rw h (omega arith))
-      (λ j k e. clash (cc))) (λ b. refl)
+      (λ j k e. clash (cc))
+
+  pub begin-keeps : stationAt s i .mode ≡ normal → Invariant c s → Maintained c s (beginReset c i s)
+  begin-keeps h v = puts-quiet c u i s _ _ v (puts-begin h v) (λ b. refl)
 
   -- rule a
-  renew-keeps : stationAt s i .mode ≡ mute → everyNeighbour c i (reqSeen (stationAt s i)) ≡ true → Invariant c s → Maintained c s (renew c i s)
+  pub puts-renew : stationAt s i .mode ≡ mute → everyNeighbour c i (reqSeen (stationAt s i)) ≡ true → Puts c i s (renew c i s) (λ b. resetDone ∷ [])
   unfolding renew
-  renew-keeps h a v =
-      puts-quiet c u i s _ _ v
-      (puts-all (renewed (stationAt s i)) resetDone (omega arith)
+  puts-renew h a =
+      puts-all (renewed (stationAt s i)) resetDone (omega arith)
       (λ j k. rw (none-at, every-neighbour-at c u i (reqSeen (stationAt s i)) a j k) (omega arith))
       (λ j k. rw h (omega arith))
       (λ b. rw h (omega arith))
-      (λ j k e. clash (cc))) (λ b. refl)
+      (λ j k e. clash (cc))
 
   -- a new record that the links do not read otherwise, and nothing put
   pub puts-own : (x : Station K)
@@ -81,6 +83,7 @@ module _ {K : Clock} (c : Config) (u : Rules c) (i : ℕ) (s : State K) where
         others = λ k n. station-set-other s i x k n;
         kept = λ a b n. link-set-station s i x a b;
         onto = λ b h. link-set-station s i x i b ∙ sym (append-nil (linkAt s i b));
+        apart = λ b h. link-set-station s i x i b;
         up = rw (station-set, p) (omega arith);
         head-reqs = rw (station-set, p, r) (λ j h. refl);
         head-dones = rw (station-set, p, m, e) (λ j h. refl);
@@ -89,19 +92,17 @@ module _ {K : Clock} (c : Config) (u : Rules c) (i : ℕ) (s : State K) where
       }
 
   -- rule b
-  wake-keeps : stationAt s i .mode ≡ standBy → everyNeighbour c i (doneSeen (stationAt s i)) ≡ true → Invariant c s → Maintained c s (wake i s)
+  pub puts-wake : stationAt s i .mode ≡ standBy → everyNeighbour c i (doneSeen (stationAt s i)) ≡ true → Puts c i s (wake i s) (λ b. [])
   unfolding wake
-  wake-keeps h a v =
-      puts-quiet c u i s _ _ v
-      (puts-own (woken (stationAt s i)) refl (rw h) refl refl (λ j k e. every-neighbour-at c u i (doneSeen (stationAt s i)) a j k)) (λ b. refl)
+  puts-wake h a = puts-own (woken (stationAt s i)) refl (rw h) refl refl (λ j k e. every-neighbour-at c u i (doneSeen (stationAt s i)) a j k)
 
   rule-keeps : (r : Rule) → Tested c i (stationAt s i) r → Invariant c s → Maintained c s (apply c i s r)
-  rule-keeps ruleA t v = renew-keeps (t .0) (t .1) v
-  rule-keeps ruleB t v = wake-keeps (t .0) (t .1) v
+  rule-keeps ruleA t v = puts-quiet c u i s _ _ v (puts-renew (t .0) (t .1)) (λ b. refl)
+  rule-keeps ruleB t v = puts-quiet c u i s _ _ v (puts-wake (t .0) (t .1)) (λ b. refl)
   rule-keeps ruleC t v = begin-keeps (t .0) v
   rule-keeps noRule t v = kept-still v
 
-  turn-once-keeps : Invariant c s → Maintained c s (turnOnce c i s)
+  pub turn-once-keeps : Invariant c s → Maintained c s (turnOnce c i s)
   unfolding turnOnce
   turn-once-keeps v = rule-keeps (ruleOf c i (stationAt s i)) (rule-tested c i (stationAt s i)) v
 
@@ -113,17 +114,20 @@ turn-keeps c u i s v =
     kept-then c (kept-then c k₁ k₂) (turn-once-keeps c u i _ (k₂ .inv))
 
 -- ---- enter
-pub enter-keeps : {K : Clock} (c : Config) → Rules c → (s : State K) → Invariant c s → (i : ℕ) → Maintained c s (setStation s i (entered i (stationAt s i)))
-enter-keeps c u s v i =
-    puts-quiet c u i s _ _ v (puts-own c u i s (entered i (stationAt s i)) refl refl refl refl (λ j h e. v .seen i j h e)) (λ b. refl)
+module _ {K : Clock} (c : Config) (u : Rules c) (s : State K) (v : Invariant c s) (i : ℕ) where
+  pub puts-enter : Puts c i s (setStation s i (entered i (stationAt s i))) (λ b. [])
+  puts-enter = puts-own c u i s (entered i (stationAt s i)) refl refl refl refl (λ j h e. v .seen i j h e)
+
+  pub enter-keeps : Maintained c s (setStation s i (entered i (stationAt s i)))
+  enter-keeps = puts-quiet c u i s _ _ v puts-enter (λ b. refl)
 
 -- ---- send
-may-send-unmuted : (m : Mode) (d : Bool) → maySend m d ≡ true → muted m ≡ 0
+pub may-send-unmuted : (m : Mode) (d : Bool) → maySend m d ≡ true → muted m ≡ 0
 may-send-unmuted normal d h = refl
 may-send-unmuted mute d h = clash (cc)
 may-send-unmuted standBy d h = refl
 
-may-send-seen : (m : Mode) (d : Bool) → maySend m d ≡ true → (m ≡ normal → d ≡ true) → d ≡ true
+pub may-send-seen : (m : Mode) (d : Bool) → maySend m d ≡ true → (m ≡ normal → d ≡ true) → d ≡ true
 may-send-seen normal d h k = k refl
 may-send-seen mute d h k = clash (cc)
 may-send-seen standBy d h k = h
@@ -150,12 +154,21 @@ module _ {K : Clock} (c : Config) (u : Rules c) (s : State K) (v : Invariant c s
       rw (← eqb-true j b e, may-send-unmuted _ _ may) (omega arith)
   tail-send b false e = (refl, refl)
 
-  puts-send : Puts c i s (doSend i j g s .after) out
+  -- station j is in the phase of i: it has made its reset, and is not past the next
+  pub one-phase : stationAt s j .phase ≡ stationAt s i .phase
+  one-phase =
+      let k = rw (may-send-seen _ _ may (v .seen i j ij)) at (flow-dones _ _ _ (linkAt s j i) _ _ (v .flow j i (u .both-ways i j ij))) in
+      let l = phase-near c s v i j ij in
+      let m = may-send-unmuted (stationAt s i .mode) (doneSeen (stationAt s i) j) may in
+      omega arith
+
+  pub puts-send : Puts c i s (doSend i j g s .after) out
   puts-send =
       record {
         others = λ k n. station-set-link _ i j _ k ∙ station-set-other s i x k n;
         kept = λ a b n. link-set-row _ i j _ a b n ∙ link-set-station s i x a b;
         onto = λ b h. onto-send b (eqb j b) refl;
+        apart = λ b h. link-set-col _ i j _ b (λ e. clash (sym ij ∙ ap (neighbours c i) (sym e) ∙ h)) ∙ link-set-station s i x i b;
         up = rw (station-set-link, station-set) (omega arith);
         head-reqs = rw (station-set-link, station-set) (λ k h. refl);
         head-dones = rw (station-set-link, station-set) (λ k h. refl);
@@ -209,7 +222,7 @@ module _ {K : Clock} (c : Config) (u : Rules c) (s : State K) (v : Invariant c s
       }
 
   -- a message: it lies in the receiver's phase
-  takes-message : (w : K .Load) (g : ℕ) → linkAt s j i ≡ message w g ∷ q
+  pub takes-message : (w : K .Load) (g : ℕ) → linkAt s j i ≡ message w g ∷ q
       → TakesOff c i j s (doReceive i j w g q s .after) (message w g) q (record { phase = stationAt s i .phase; load = w; register = g } ∷ [])
   takes-message w g held =
       taken-by (receiving i j w (stationAt s i)) (message w g) _ held refl refl (λ k n. refl) (λ k n. refl) (λ k d. d)
@@ -218,7 +231,7 @@ module _ {K : Clock} (c : Config) (u : Rules c) (s : State K) (v : Invariant c s
       (λ h. h .2)
 
   -- reset_req: it was not seen before
-  takes-req : linkAt s j i ≡ resetReq ∷ q → TakesOff c i j s (setLink (setStation s i (withReq j (stationAt s i))) j i q) resetReq q []
+  pub takes-req : linkAt s j i ≡ resetReq ∷ q → TakesOff c i j s (setLink (setStation s i (withReq j (stationAt s i))) j i q) resetReq q []
   takes-req held =
       taken-by (withReq j (stationAt s i)) resetReq [] held refl refl (λ k n. put-other false (stationAt s i .reqs) j k true n) (λ k n. refl) (λ k d. d)
       (λ h. rw (put-same, moved h))
@@ -231,7 +244,7 @@ module _ {K : Clock} (c : Config) (u : Rules c) (s : State K) (v : Invariant c s
           omega arith
 
   -- reset_done: it was not seen before
-  takes-done : linkAt s j i ≡ resetDone ∷ q → TakesOff c i j s (setLink (setStation s i (withDone j (stationAt s i))) j i q) resetDone q []
+  pub takes-done : linkAt s j i ≡ resetDone ∷ q → TakesOff c i j s (setLink (setStation s i (withDone j (stationAt s i))) j i q) resetDone q []
   takes-done held =
       taken-by (withDone j (stationAt s i)) resetDone [] held refl refl (λ k n. refl) (λ k n. put-other false (stationAt s i .dones) j k true n)
       (λ k d. by-dec (ℕ-discrete k j) (λ p. rw (p, put-same)) (λ p. put-other false (stationAt s i .dones) j k true p ∙ d))

@@ -15,4 +15,7 @@ pub mod ClockRange
 pub mod FormedParts
 pub mod Formed
 pub mod RestLaws
+pub mod Books
+pub mod BooksKept
+pub mod NeverBeyond
 pub mod NewsLaws

@@ -2,13 +2,11 @@
 use Prim.Native.Nat.{ℕ, _<_, _≤_}
 use native.Mathlib.Omega.{arith}
 use mathlib.Core.Path.{_≡_, refl}
-use mathlib.Core.List.{List}
 use mathlib.Core.Bool.{true, false}
-use lib.ListN.{getD}
 use borrow.Author.Tests.{ltb-true, le-ltb}
 use Rattle.codec.proofs.EveryLaws.{both}
 use Rattle.clock.proofs.NewsLaws.{news-below}
-use Rattle.reset.specs.Config.{Config, wellMade, networkRules, isStation}
+use Rattle.reset.specs.Config.{Config, wellMade, isStation}
 use Rattle.reset.specs.Clock.{vector, ofStation, timestampFits}
 use Rattle.reset.specs.State.{State, stationAt}
 use Rattle.reset.specs.Steps.{Step, enter, send, recv, start, Entry, entry, Outcome, receiving, step}
@@ -38,9 +36,8 @@ module _ (c : Config) (s : State vector) (h : wellFormed c s ≡ true) where
   few : (p : Step) → Few p (step c s p)
   unfolding stationFits
   few =
-      of-step c s Few
+      of-step c s Few (λ p k f e q. clash (cc))
       (record {
-        refusal = λ p k f e q. clash (cc);
         own = λ i g si l b f e q. rw (← entry-same _ e q) (omega (arith, small));
         sent = λ i j g si ij m l b f e q. rw (← entry-same _ e q) (omega (arith, small));
         received = λ i j v g r si ij d b f e q.

@@ -143,9 +143,8 @@ module _ {K : Clock} (c : Config) (u : Rules c) (s : State K) (v : Invariant c s
 
   does : (p : Step) → Does c s p (step c s p)
   does =
-      of-step c s (Does c s)
+      of-step c s (Does c s) (λ p k. (v, refl))
       (record {
-        refusal = λ p k. (v, refl);
         own = λ i g si l b. does-enter i g si;
         sent = λ i j g si ij m l b. does-send i j g si ij m;
         received = λ i j w g q si ij e b. does-receive i j w g q si ij e;

@@ -5,6 +5,7 @@ pub mod State
 pub mod Steps
 pub mod Bears
 pub mod Network
+pub mod Bounds
 pub mod WellFormed
 pub mod Worked
 pub mod WorkedStates

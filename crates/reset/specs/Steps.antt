@@ -145,9 +145,10 @@ linkBounded c s i j = leb (length (linkAt s i j)) (places c i j)
 unfoldable pub inBounds : {K : Clock} → Config → State K → Bool
 inBounds c s = every 8 (phaseBounded s) && (every 8 (λ (i : ℕ). every 8 (countBounded c s i)) && every 8 (λ (i : ℕ). every 8 (linkBounded c s i)))
 
--- refused with 9 where the state after would have an item, count or phase beyond its bound
+-- refused with 2 where the state after would have an item, count or phase beyond its bound: no network that began as the initial one meets this
+-- (`NeverBeyond`), only a state that was lent
 unfoldable pub bounded : {K : Clock} → Config → State K → Outcome K → Outcome K
-bounded c s o = guard s (not (inBounds c (o .after))) 9 o
+bounded c s o = guard s (not (inBounds c (o .after))) 2 o
 
 -- ---- enter i reg: own count +1; the entry's timestamp (document 01: stamp) is the eight counts
 -- the record after it
@@ -230,8 +231,12 @@ isNormal normal = true
 isNormal mute = false
 isNormal standBy = false
 
--- ---- a step, its refusals in the order 4, 7, 5, 8, 6, 9:
--- 4 no station or no neighbour; 7 an empty link; 5 the mode forbids it; 8 a start in phase 999,999; 6 allowance or limit used up; 9 beyond a bound
+-- and in a phase that has a next one
+abbrev pub inLastPhase : {K : Clock} → Station K → Bool
+inLastPhase x = leb lastPhase (x .phase)
+
+-- ---- a step, its refusals in the order 4, 7, 5, 8, 6, 2:
+-- 4 no station or no neighbour; 7 an empty link; 5 the mode forbids it; 8 a start in phase 999,999; 6 allowance or limit used up; 2 beyond a bound
 abbrev pub step : {K : Clock} → Config → State K → Step → Outcome K
 step c s (enter i g) =
     guard s (not (isStation c i)) 4
@@ -250,5 +255,5 @@ step c s (recv i j) =
 step c s (start i) =
     guard s (not (isStation c i)) 4
     (guard s (not (isNormal (stationAt s i .mode))) 5
-    (guard s (leb lastPhase (stationAt s i .phase)) 8
+    (guard s (inLastPhase (stationAt s i)) 8
     (bounded c s (doStart c i s))))

@@ -132,7 +132,7 @@ pub record Traps : Type 0 where
   pub own-direction : lines (skewed 8) (send 0 1 1 ∷ send 0 1 2 ∷ send 0 1 3 ∷ send 0 1 4 ∷ send 1 0 5 ∷ send 1 0 6 ∷ start 0 ∷ start 1 ∷ recv 0 1 ∷ recv 0 1 ∷ [])
       ≡ entryLine 0 0 (1 ∷ 0 ∷ []) ∷ entryLine 0 0 (2 ∷ 0 ∷ []) ∷ entryLine 0 0 (3 ∷ 0 ∷ []) ∷ noLine 6 ∷ entryLine 0 1 (0 ∷ 1 ∷ []) ∷ noLine 6
       ∷ modeLine 0 0 mute ∷ modeLine 0 1 mute ∷ receiptLine 0 0 (4 ∷ 1 ∷ []) 1 ∷ modeLine 1 0 standBy ∷ []
-  -- a link holds two items more than its limit: a message, a req and a done (one more only: 9)
+  -- a link holds two items more than its limit: a message, a req and a done (one more only: 2)
   pub two-more-places : lines strict (send 0 1 1 ∷ start 0 ∷ start 1 ∷ recv 0 1 ∷ []) ≡ entryLine 0 0 (1 ∷ 0 ∷ []) ∷ modeLine 0 0 mute ∷ modeLine 0 1 mute ∷ modeLine 1 0 standBy ∷ []
   -- a third send on a limit of 2
   pub third-send : lines pair (send 0 1 1 ∷ send 0 1 2 ∷ send 0 1 3 ∷ []) ≡ entryLine 0 0 (1 ∷ 0 ∷ []) ∷ entryLine 0 0 (2 ∷ 0 ∷ []) ∷ noLine 6 ∷ []

@@ -1,5 +1,5 @@
 -- Headers, and lent states that no list of steps from an initial network reaches, worked by the definitions: what each rule and each clause turns away,
--- the refusals 8 and 9, and rest while an item is under way. Assumes nothing.
+-- the refusals 8 and 2, and rest while an item is under way. Assumes nothing.
 use Prim.Native.Nat.{ℕ}
 use mathlib.Core.Path.{_≡_, refl}
 use mathlib.Core.List.{List, [], _∷_, _++_}
@@ -186,16 +186,23 @@ abbrev pub Lent : State vector → List Step → List Line → Type 0
 Lent s ps out = (formed s ≡ true) × (linesFrom pair s ps ≡ out)
 
 pub record LentSteps : Type 0 where
-  -- 8 in phase 999,999, and not before it; 5 comes before 8, and 8 before 9
+  -- 8 in phase 999,999, and not before it; 5 comes before 8
   pub start-at-last : Lent (with (held 0 0 normal 999999 0 0 false true)) (start 0 ∷ start 1 ∷ []) (noLine 8 ∷ modeLine 0 1 mute ∷ [])
   pub start-before : Lent (with (held 0 0 normal 999998 0 0 false true)) (start 0 ∷ []) (modeLine 999998 0 mute ∷ [])
   pub five-before-eight : Lent (with (held 0 0 standBy 999999 0 0 false true)) (start 0 ∷ []) (noLine 5 ∷ [])
-  pub eight-before-nine : Lent (on 0 1 (notes 4 0 0) (with (held 0 0 normal 999999 0 0 false true))) (start 0 ∷ []) (noLine 8 ∷ [])
-  -- 9 for a phase, a count or an item beyond its bound; 6 comes before 9; the state is left: the next step finds it so
-  pub phase-beyond : Lent (on 1 0 (resetReq ∷ []) (with (held 0 0 normal 999999 0 0 false true))) (recv 0 1 ∷ enter 0 1 ∷ []) (noLine 9 ∷ entryLine 999999 0 (1 ∷ 0 ∷ []) ∷ [])
-  pub count-beyond : Lent (on 1 0 (notes 1 0 0) (with (held 7 0 normal 0 2 1 false true))) (enter 0 1 ∷ send 0 1 1 ∷ recv 0 1 ∷ []) (noLine 9 ∷ noLine 9 ∷ noLine 9 ∷ [])
-  pub item-beyond : Lent (on 0 1 (notes 4 0 0) (with (held 0 0 normal 0 0 0 false true))) (send 0 1 1 ∷ start 0 ∷ recv 1 0 ∷ send 0 1 1 ∷ []) (noLine 9 ∷ noLine 9 ∷ receiptLine 0 1 (0 ∷ 1 ∷ []) 0 ∷ entryLine 0 0 (1 ∷ 0 ∷ []) ∷ [])
-  pub six-before-nine : Lent (with (held 7 0 normal 0 3 2 false true)) (enter 0 1 ∷ send 0 1 1 ∷ []) (noLine 6 ∷ noLine 6 ∷ [])
+  -- 2 where a bound would be met: rule c in the last phase; a count at the ceiling, for each kind of entry; a full link, at a send, a start, and a receipt
+  -- by which rule c or rule a puts a control item on it. The state is left: the next step finds it so
+  pub phase-beyond : Lent (on 1 0 (resetReq ∷ []) (with (held 0 0 normal 999999 0 0 false true))) (recv 0 1 ∷ enter 0 1 ∷ []) (noLine 2 ∷ entryLine 999999 0 (1 ∷ 0 ∷ []) ∷ [])
+  pub count-beyond : Lent (on 1 0 (notes 1 0 0) (with (held 7 0 normal 0 2 1 false true))) (enter 0 1 ∷ send 0 1 1 ∷ recv 0 1 ∷ []) (noLine 2 ∷ noLine 2 ∷ noLine 2 ∷ [])
+  pub item-beyond : Lent (on 0 1 (notes 4 0 0) (with (held 0 0 normal 0 0 0 false true))) (send 0 1 1 ∷ start 0 ∷ recv 1 0 ∷ send 0 1 1 ∷ []) (noLine 2 ∷ noLine 2 ∷ receiptLine 0 1 (0 ∷ 1 ∷ []) 0 ∷ entryLine 0 0 (1 ∷ 0 ∷ []) ∷ [])
+  pub item-beyond-by-c : Lent (on 0 1 (notes 4 0 0) (on 1 0 (resetReq ∷ []) (with (held 0 0 normal 0 0 0 false true)))) (recv 0 1 ∷ recv 0 1 ∷ []) (noLine 2 ∷ noLine 2 ∷ [])
+  pub item-beyond-by-a : Lent (on 0 1 (notes 4 0 0) (on 1 0 (resetReq ∷ []) (with (held 0 0 mute 0 0 0 false true)))) (recv 0 1 ∷ recv 0 1 ∷ []) (noLine 2 ∷ noLine 2 ∷ [])
+  -- it comes last: after 4, 7, 5, 8 and 6
+  pub four-before-bound : Lent (with (held 7 0 normal 0 0 0 false true)) (send 0 0 1 ∷ enter 2 1 ∷ []) (noLine 4 ∷ noLine 4 ∷ [])
+  pub seven-before-bound : Lent (with (held 7 0 normal 0 0 0 false true)) (recv 0 1 ∷ []) (noLine 7 ∷ [])
+  pub five-before-bound : Lent (on 0 1 (notes 4 0 0) (with (held 7 0 mute 0 0 0 false true))) (send 0 1 1 ∷ start 0 ∷ []) (noLine 5 ∷ noLine 5 ∷ [])
+  pub eight-before-bound : Lent (on 0 1 (notes 4 0 0) (with (held 0 0 normal 999999 0 0 false true))) (start 0 ∷ []) (noLine 8 ∷ [])
+  pub six-before-bound : Lent (with (held 7 0 normal 0 3 2 false true)) (enter 0 1 ∷ send 0 1 1 ∷ []) (noLine 6 ∷ noLine 6 ∷ [])
   -- a receipt raises each other count to the greater, and the own count by 1 whatever the message bears; news is what grew of the others
   pub own-count : Lent (on 1 0 (notes 1 5 3) (with (held 2 1 normal 0 0 0 false true))) (recv 0 1 ∷ []) (receiptLine 0 0 (3 ∷ 3 ∷ []) 1 ∷ [])
   pub others-greater : Lent (on 1 0 (notes 1 5 3) (with (held 2 4 normal 0 0 0 false true))) (recv 0 1 ∷ []) (receiptLine 0 0 (3 ∷ 4 ∷ []) 0 ∷ [])
@@ -209,11 +216,16 @@ lent-steps =
       start-at-last = (refl, refl);
       start-before = (refl, refl);
       five-before-eight = (refl, refl);
-      eight-before-nine = (refl, refl);
       phase-beyond = (refl, refl);
       count-beyond = (refl, refl);
       item-beyond = (refl, refl);
-      six-before-nine = (refl, refl);
+      item-beyond-by-c = (refl, refl);
+      item-beyond-by-a = (refl, refl);
+      four-before-bound = (refl, refl);
+      seven-before-bound = (refl, refl);
+      five-before-bound = (refl, refl);
+      eight-before-bound = (refl, refl);
+      six-before-bound = (refl, refl);
       own-count = (refl, refl);
       others-greater = (refl, refl);
       three-in-a-row = (refl, refl);

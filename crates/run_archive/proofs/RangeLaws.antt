@@ -145,9 +145,8 @@ module _ (c : Config) (w : wellMade c ≡ true) (u : Rules c) where
   module _ (s : State vector) (h : Formed c s) where
     step-in-range : (p : Step) → Ranged p (step c s p)
     step-in-range =
-        of-step c s Ranged
+        of-step c s Ranged (λ p k f z e q. clash (cc))
         (record {
-          refusal = λ p k f z e q. clash (cc);
           own = λ i g si l b f z e q. of-entry _ e (in-range 1 i 255 g (entered i (stationAt s i)) 0 (own-peer i) si (rw station-set at (f .station i (below-8 i si))) z
               (let o = put-same 0 (stationAt s i .time) i (suc (getD (stationAt s i .time) i 0)) in omega arith)) q;
           sent = λ i j g si ij m l b f z e q. of-entry _ e (in-range 2 i j g (sending i j (stationAt s i)) 0 (sent-peer i j ij) si (rw (station-set-link, station-set) at (f .station i (below-8 i si))) z

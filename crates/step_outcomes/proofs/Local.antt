@@ -1,5 +1,5 @@
--- Number 9 looks at the whole state after a step; only the stepping station and its links out can be beyond a bound.
--- So an entry meets it where the own count is at the ceiling or, for a send, the link is full; a control item
+-- The bounds are those of the whole state after a step; only the stepping station and its links out can be beyond one.
+-- So an entry meets one where the own count is at the ceiling or, for a send, the link is full; a control item
 -- taken, or a start, where the phase is past its last or a link out has no room. Assumes nothing.
 use Prim.Native.Nat.{ℕ, _≤_, _<_, zero, suc, _+_}
 use mathlib.Core.Path.{_≡_, refl, sym, _∙_, ap}
@@ -59,7 +59,7 @@ module _ {K : Clock} (c : Config) (s s′ : State K) (i : ℕ) (il : i < 8) (v :
       join (phaseBounded s′ i) _ (b .phases i il)
       (join (every 8 (countBounded c s′ i)) _ (every-of 8 (countBounded c s′ i) (λ k m. b .counts i k il m)) (every-of 8 (linkBounded c s′ i) (λ j m. b .links i j il m)))
 
-  -- number 9 is met exactly when the station or one of its links out is beyond a bound
+  -- a bound is met exactly when the station or one of its links out is beyond it
   pub local : inBounds c s′ ≡ localBounds c s′ i
   local = bool-iff (inBounds c s′) (localBounds c s′ i) (λ h. own (bounds c s′ h)) (λ h. in-bounds c s′ (kept h))
 

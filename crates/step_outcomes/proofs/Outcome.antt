@@ -54,7 +54,7 @@ module _ (c : Config) (s : State vector) (w : wellFormed c s ≡ true) where
         unfolding guard
         enter-left = rw (h, lt-leb (allowanceAt c (stationAt s i .phase) i) (stationAt s i .own) u)
 
-        pub enter-full : c .t ≤ getD (stationAt s i .time) i 0 → step c s (enter i g) ≡ refuse s 9
+        pub enter-full : c .t ≤ getD (stationAt s i .time) i 0 → step c s (enter i g) ≡ refuse s 2
         unfolding guard bounded
         enter-full f = enter-left ∙ rw (enter-bounds c s inside i (station-small i h) g, lt-leb (suc (getD (stationAt s i .time) i 0)) (c .t) (omega arith))
 
@@ -86,16 +86,16 @@ module _ (c : Config) (s : State vector) (w : wellFormed c s ≡ true) where
           module _ (u : sentTo (stationAt s i) j < limitAt c (stationAt s i .phase) i j) where
             -- what is left to test: the own count, and the link's room
             send-left : step c s (send i j g)
-                ≡ guard s (not (leb (suc (getD (stationAt s i .time) i 0)) (c .t) && leb (suc (length (linkAt s i j))) (places c i j))) 9 (doSend i j g s)
+                ≡ guard s (not (leb (suc (getD (stationAt s i .time) i 0)) (c .t) && leb (suc (length (linkAt s i j))) (places c i j))) 2 (doSend i j g s)
             unfolding guard bounded
             send-left =
                 rw (h, n, m, lt-leb (limitAt c (stationAt s i .phase) i j) (sentTo (stationAt s i) j) u, send-bounds c s inside i (station-small i h) j g (neighbour-small i j n))
 
-            pub send-full : c .t ≤ getD (stationAt s i .time) i 0 → step c s (send i j g) ≡ refuse s 9
+            pub send-full : c .t ≤ getD (stationAt s i .time) i 0 → step c s (send i j g) ≡ refuse s 2
             unfolding guard
             send-full f = send-left ∙ rw (lt-leb (suc (getD (stationAt s i .time) i 0)) (c .t) (omega arith))
 
-            pub send-no-room : getD (stationAt s i .time) i 0 < c .t → places c i j ≤ length (linkAt s i j) → step c s (send i j g) ≡ refuse s 9
+            pub send-no-room : getD (stationAt s i .time) i 0 < c .t → places c i j ≤ length (linkAt s i j) → step c s (send i j g) ≡ refuse s 2
             unfolding guard
             send-no-room f r =
                 send-left
@@ -113,7 +113,7 @@ module _ (c : Config) (s : State vector) (w : wellFormed c s ≡ true) where
       (rows : (a b : ℕ) → a ≢ i → length (linkAt s₁ a b) ≤ length (linkAt s a b))
       (small : (k : ℕ) → k < 8 → getD (u .station .time) k 0 ≤ c .t)
       (t : State vector) (e : turn c i t ≡ putItems c (setStation s₁ i (u .station)) i (u .items)) where
-    pub control-refused : (leb (u .station .phase) 999999 && roomFor c s i (length (u .items))) ≡ false → bounded c s (settle c i t) ≡ refuse s 9
+    pub control-refused : (leb (u .station .phase) 999999 && roomFor c s i (length (u .items))) ≡ false → bounded c s (settle c i t) ≡ refuse s 2
     unfolding guard bounded
     control-refused h = rw (e, control-bounds c s s₁ inside i il stations out rows (u .station) small (u .items), h)
 
@@ -157,7 +157,7 @@ module _ (c : Config) (s : State vector) (w : wellFormed c s ≡ true) where
           small-begins : (k : ℕ) → k < 8 → getD (begins .station .time) k 0 ≤ c .t
           small-begins = started-within c i (stationAt s i) (station-counts vector-range c i (stationAt s i) (facts .station i (station-small i h)))
 
-          pub start-refused : (leb (begins .station .phase) 999999 && roomFor c s i (length (begins .items))) ≡ false → step c s (start i) ≡ refuse s 9
+          pub start-refused : (leb (begins .station .phase) 999999 && roomFor c s i (length (begins .items))) ≡ false → step c s (start i) ≡ refuse s 2
           start-refused t =
               start-left
               ∙ control-refused i (station-small i h) s (stationAt s i) begins (λ k. refl) (λ b. refl) (λ a b n. omega arith) small-begins (beginReset c i s) (start-set c i s) t
@@ -201,7 +201,7 @@ module _ (c : Config) (s : State vector) (w : wellFormed c s ≡ true) where
           bounded-by : inBounds c (doReceive i j v g q s .after) ≡ leb (suc (getD (stationAt s i .time) i 0)) (c .t)
           bounded-by = receive-bounds c s inside i (station-small i h) j v g q (neighbour-small i j n) e message-small (not-itself c net i j n)
 
-          pub message-full : c .t ≤ getD (stationAt s i .time) i 0 → step c s (recv i j) ≡ refuse s 9
+          pub message-full : c .t ≤ getD (stationAt s i .time) i 0 → step c s (recv i j) ≡ refuse s 2
           unfolding guard bounded
           message-full f = recv-left ∙ rw (e, bounded-by, lt-leb (suc (getD (stationAt s i .time) i 0)) (c .t) (omega arith))
 
@@ -233,7 +233,7 @@ module _ (c : Config) (s : State vector) (w : wellFormed c s ≡ true) where
           stays : (k : ℕ) → stationAt s₁ k ≡ stationAt s k
           stays k = station-set-link s j i q k
 
-          pub mark-refused : (leb (turns .station .phase) 999999 && roomFor c s i (length (turns .items))) ≡ false → step c s (recv i j) ≡ refuse s 9
+          pub mark-refused : (leb (turns .station .phase) 999999 && roomFor c s i (length (turns .items))) ≡ false → step c s (recv i j) ≡ refuse s 2
           mark-refused t =
               recv-left ∙ rw e (marks ∙ control-refused i (station-small i h) s₁ x turns stays out rows small-turns (setLink (setStation s i x) j i q) leads t)
 

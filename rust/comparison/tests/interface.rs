@@ -3,9 +3,10 @@
 use comparison::{cases, in_32_bits};
 use melontime::{
     archive_bytes, Archive, EntriesBlock, Header, InMode, Kind, Mode, Network, NetworkMut, Outcome,
-    Receipt, Record, Refusal, Verdict, AREA,
+    Reached, Receipt, Record, Refusal, StepRefusal, Verdict, AREA,
 };
 use reference::area;
+use reference::at_bounds::by_hand;
 use reference::generate::{
     any_archive, any_network, any_ranged_header, any_state, mutated_archive, network, next_step,
     rule_breaker, state_with_news, Habits, NetworkWish, RuleBreak,
@@ -94,11 +95,35 @@ fn take(mut network: NetworkMut, step: Step) -> Result<Taken, Refusal> {
     }
 }
 
+/// A step of a network that steps have reached from an initial one.
+fn take_reached(reached: &mut Reached, step: Step) -> Result<Taken, StepRefusal> {
+    match step {
+        Step::Enter { station, register } => {
+            reached.enter(station as u32, register).map(Taken::Entry)
+        }
+        Step::Send {
+            station,
+            peer,
+            register,
+        } => reached
+            .send(station as u32, peer as u32, register)
+            .map(Taken::Entry),
+        Step::Recv { station, peer } => reached
+            .recv(station as u32, peer as u32)
+            .map(Taken::Outcome),
+        Step::Start { station } => {
+            let after = reached.start(station as u32);
+            after.map(Outcome::Control).map(Taken::Outcome)
+        }
+    }
+}
+
 /// The accepted records of a run of both.
 fn run(rng: &mut Rng, header: &reference::header::Header) -> Vec<reference::record::Record> {
     let mut network = Network::setup(&header_of(header)).expect("a network");
     let mut area = vec![rng.next_u64() as u8; AREA];
     let mut lent = NetworkMut::setup_in(&header_of(header), &mut area).expect("a network");
+    let mut reached = Reached::setup(&header_of(header)).expect("a network");
     let mut state = State::initial(header).expect("a network");
     let mut records = Vec::new();
     let mut habits = Habits::any(rng);
@@ -111,6 +136,8 @@ fn run(rng: &mut Rng, header: &reference::header::Header) -> Vec<reference::reco
         let expected = answer.map(taken_of).map_err(refusal_of);
         assert_eq!(take(network.lend(), step), expected, "{step:?}");
         assert_eq!(take(lent.lend(), step), expected, "{step:?}");
+        let taken = take_reached(&mut reached, step).map_err(Refusal::from);
+        assert_eq!(taken, expected, "{step:?}");
         assert_eq!(Ok(network.is_quiescent()), state.rest());
         assert_eq!(Ok(lent.is_quiescent()), state.rest());
         if let Ok(Answer::Entry { record, .. }) = answer {
@@ -120,6 +147,7 @@ fn run(rng: &mut Rng, header: &reference::header::Header) -> Vec<reference::reco
     assert_eq!(network.header(), header_of(header));
     assert_eq!(lent.header(), header_of(header));
     assert!(network.as_bytes() == lent.as_bytes());
+    assert!(*reached.network() == network && reached.into_network() == network);
     let stored = Network::from_bytes(network.as_bytes()).expect("an image");
     assert!(stored == network);
     records
@@ -239,9 +267,57 @@ fn numbers_of_refusals() {
     for refusal in reference::refusal::Refusal::ALL {
         assert_eq!(refusal_of(refusal).number(), refusal.number());
     }
-    let last = reference::refusal::Refusal::ALL.len() as u64;
-    for none in [0, last + 1, 255, 256, 257, u64::MAX] {
+    for none in [0, 9, 13, 255, 256, 257, 265, u64::MAX] {
         assert_eq!(Refusal::from_number(none), None);
+    }
+}
+
+/// The five refusals of steps have the numbers and the text of all.
+#[test]
+fn numbers_of_step_refusals() {
+    for number in 0..300 {
+        let Some(refusal) = StepRefusal::from_number(number) else {
+            assert!(!(4..=8).contains(&number));
+            continue;
+        };
+        assert!((4..=8).contains(&number) && u64::from(refusal.number()) == number);
+        assert_eq!(Some(Refusal::from(refusal)), Refusal::from_number(number));
+        assert_eq!(refusal.to_string(), Refusal::from(refusal).to_string());
+    }
+}
+
+/// Setup of a network that is to be stepped alone refuses as any setup.
+#[test]
+fn setups_of_reached_networks() {
+    cases("setups_of_reached_networks", 300, |rng| {
+        let way = rng.pick(&RuleBreak::ALL);
+        for header in [
+            any_network(rng),
+            rule_breaker(rng, way),
+            any_ranged_header(rng),
+        ] {
+            let expected = Network::setup(&header_of(&header));
+            let made = Reached::setup(&header_of(&header)).map(Reached::into_network);
+            assert!(made == expected);
+            let made = Reached::setup_block(&header.to_block_untested());
+            assert!(made.map(Reached::into_network) == expected);
+        }
+    });
+}
+
+/// On bytes that no initial network reaches a step that would leave a bound is
+/// refused as bytes that are no network, and leaves them.
+#[test]
+fn networks_at_the_bounds() {
+    for case in by_hand() {
+        let bytes = area::image(&case.state);
+        let mut network = Network::from_bytes(&bytes).expect("an image");
+        let taken = take(network.lend(), case.step);
+        assert_eq!(taken.is_ok(), case.number == 0, "{}", case.what);
+        assert_eq!(network.as_bytes() != bytes, taken.is_ok(), "{}", case.what);
+        if let Err(refusal) = taken {
+            assert_eq!(refusal.number(), case.number, "{}", case.what);
+        }
     }
 }
 

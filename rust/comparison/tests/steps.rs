@@ -4,11 +4,12 @@
 use comparison::{cases, in_32_bits, library_step, rested, stepped, written};
 use melontime::raw;
 use reference::area;
+use reference::at_bounds::{bounds_left, by_hand, counts_at_the_ceiling, full_links, Bound};
 use reference::check::seal;
 use reference::generate::{
-    any_network, any_ranged_header, any_state, damaged_header_block, ill_formed_state, network,
-    next_step, rule_breaker, state_with_news, wild_step, Habits, HeaderDamage, NetworkWish,
-    RuleBreak, Shape, StateDamage, Traffic,
+    any_network, any_ranged_header, any_state, damaged_header_block, every_step, ill_formed_state,
+    network, next_step, rule_breaker, state_with_news, wild_step, Habits, HeaderDamage,
+    NetworkWish, RuleBreak, Shape, StateDamage, Traffic,
 };
 use reference::header::Header;
 use reference::in_place;
@@ -18,17 +19,22 @@ use reference::random::Rng;
 /// The bytes of a lent record before a call.
 const EVENT: [u8; 32] = [0xa5; 32];
 
-/// One step by both on copies of an area, and rest before it; both copies are
-/// compared and the library's answered.
-fn compare_step(before: &[u8], step: Step) -> Vec<u8> {
-    let (mut ours, mut theirs) = (before.to_vec(), before.to_vec());
-    let (mut our_event, mut their_event) = (EVENT, EVENT);
+/// One step on copies of an area, by the library, the reference and the version
+/// in place: one answer, one record and one area, and where the step is refused
+/// those of before. The answer and the area.
+fn compare_step(before: &[u8], step: Step) -> (u64, Vec<u8>) {
+    let (mut ours, mut our_event) = (before.to_vec(), EVENT);
     let answer = library_step(&mut ours, &mut our_event, step);
-    let outcome = area::step(&mut theirs, &mut their_event, step);
-    assert_eq!(answer, stepped(&outcome), "{step:?}");
-    assert_eq!(our_event, their_event, "the record of {step:?}");
-    assert!(ours == theirs, "the area after {step:?}");
-    ours
+    for theirs in [area::step, in_place::step] {
+        let (mut area, mut event) = (before.to_vec(), EVENT);
+        let outcome = theirs(&mut area, &mut event, step);
+        assert_eq!(answer, stepped(&outcome), "{step:?}");
+        assert_eq!(our_event, event, "the record of {step:?}");
+        assert!(ours == area, "the area after {step:?}");
+    }
+    let left = ours == before && our_event == EVENT;
+    assert!(left || answer >= 100, "{step:?} is to leave both");
+    (answer, ours)
 }
 
 /// All calls on bytes that may be no image.
@@ -103,13 +109,25 @@ fn run_by(
     rng: &mut Rng,
     header: &Header,
     length: usize,
-    mut next: impl FnMut(&mut Rng, &State) -> Step,
+    next: impl FnMut(&mut Rng, &State) -> Step,
 ) -> [u64; 8] {
     let block = header.to_block().expect("fields in their ranges");
     let mut bytes = vec![rng.next_u64() as u8; AREA];
     assert_eq!(raw::setup(&block, &mut bytes), 0);
-    let mut state = State::initial(header).expect("a network");
+    let state = State::initial(header).expect("a network");
     assert!(bytes == area::image(&state), "the initial area");
+    run_on(rng, state, length, next)
+}
+
+/// Runs a list of steps from a state that an initial network reaches: none is
+/// refused with 2.
+fn run_on(
+    rng: &mut Rng,
+    mut state: State,
+    length: usize,
+    mut next: impl FnMut(&mut Rng, &State) -> Step,
+) -> [u64; 8] {
+    let mut bytes = area::image(&state);
     let mut image = bytes.clone();
     let mut told = [0; 8];
     for _ in 0..length {
@@ -118,6 +136,7 @@ fn run_by(
         let answer = library_step(&mut bytes, &mut event, step);
         let outcome = state.step(step);
         assert_eq!(answer, stepped(&outcome), "{step:?}");
+        assert!((4..=8).contains(&answer) || answer >= 100, "{step:?}");
         match outcome {
             Ok(Answer::Entry { record, .. }) => assert_eq!(event, record.to_bytes(), "{step:?}"),
             _ => assert_eq!(event, EVENT, "{step:?} is to leave the record area"),
@@ -221,17 +240,15 @@ fn news_of_hand_made_messages() {
             let state = state_with_news(rng, &header, station, peer, news);
             let step = Step::Recv { station, peer };
             let mut bytes = area::image(&state);
-            compare_step(&bytes, step);
+            let (answer, _) = compare_step(&bytes, step);
+            numbers.push(answer);
             let mut event = EVENT;
-            let placed = in_place::step(&mut bytes.clone(), &mut event.clone(), step);
-            let plain = area::step(&mut bytes.clone(), &mut event.clone(), step);
-            let ours = library_step(&mut bytes, &mut event, step);
-            numbers.push([ours, stepped(&plain), stepped(&placed)]);
+            assert_eq!(library_step(&mut bytes, &mut event, step), answer);
             // The own count goes up by one, whatever the message has there.
             let own = state.stations[station].counts[station] + 1;
             assert_eq!(event[16 + 2 * station..][..2], own.to_le_bytes());
         }
-        let right: Vec<[u64; 3]> = (100..108).map(|number| [number; 3]).collect();
+        let right: Vec<u64> = (100..108).collect();
         assert_eq!(numbers, right);
     });
 }
@@ -261,6 +278,156 @@ fn news_by_hand() {
     assert_eq!(raw::recv(&mut bytes, &mut event, 0, 1), 1001);
 }
 
+/// Whether a count stands at the ceiling, in a network with links, and whether
+/// a link is full.
+fn at_bounds_of(state: &State) -> [bool; 2] {
+    let at_ceiling = state.n() > 1 && counts_at_the_ceiling(state) > 0;
+    [at_ceiling, full_links(state) > 0]
+}
+
+/// Whichever step comes next, it is accepted or refused with 4 to 8.
+fn try_every_step(state: &State) {
+    let bytes = area::image(state);
+    for step in every_step(state.n()) {
+        let (answer, _) = compare_step(&bytes, step);
+        assert!((4..=8).contains(&answer) || answer >= 100, "{step:?}");
+    }
+}
+
+/// A run from a state that an initial network reaches, by habits that change now
+/// and then; at some of the states at a bound every step is tried. Answers how
+/// often a count stood at the ceiling, and how often a link was full.
+fn run_at_bounds(rng: &mut Rng, state: State) -> [u64; 2] {
+    let mut met = [0; 2];
+    let mut habits = Habits::any(rng);
+    run_on(rng, state, 300, |rng, state| {
+        let at_bounds = at_bounds_of(state);
+        met = std::array::from_fn(|k| met[k] + u64::from(at_bounds[k]));
+        if at_bounds.contains(&true) && rng.chance(1, 20) {
+            try_every_step(state);
+        }
+        if rng.chance(1, 24) {
+            habits = Habits::any(rng);
+        }
+        next_step(rng, state, &habits)
+    });
+    met
+}
+
+/// A header with small limits and the least ceiling.
+fn tight_header(rng: &mut Rng) -> Header {
+    let wish = NetworkWish {
+        small: true,
+        tight: true,
+        most: rng.pick(&[2, 3, 4, 8]),
+        ..NetworkWish::default()
+    };
+    network(rng, wish)
+}
+
+/// With the least ceiling counts reach it and links fill up, and no step is
+/// refused with 2.
+#[test]
+fn lists_at_the_least_ceiling() {
+    let mut rng = Rng::new(1);
+    let mut met = [0; 2];
+    for _ in 0..200 {
+        let header = tight_header(&mut rng);
+        let state = State::initial(&header).expect("a network");
+        let more = run_at_bounds(&mut rng, state);
+        met = std::array::from_fn(|k| met[k] + more[k]);
+    }
+    println!("lists_at_the_least_ceiling: states at the ceiling, with full links {met:?}");
+    assert!(met.iter().all(|&states| states > 100), "{met:?}");
+}
+
+/// The state that whole resets of an initial network lead to differs from the
+/// initial one in the phases alone. In the last phase a start is refused with 8;
+/// there and before it no step is refused with 2.
+#[test]
+fn lists_in_the_last_phases() {
+    let mut rng = Rng::new(1);
+    let mut last = 0;
+    for _ in 0..100 {
+        let mut state = State::initial(&tight_header(&mut rng)).expect("a network");
+        let phase = 999_999 - rng.below(3) as u32;
+        for station in &mut state.stations {
+            station.phase = phase;
+        }
+        let start = Step::Start { station: 0 };
+        let (answer, _) = compare_step(&area::image(&state), start);
+        assert_eq!(answer == 8, phase == 999_999);
+        last += u64::from(answer == 8);
+        run_at_bounds(&mut rng, state);
+    }
+    println!("lists_in_the_last_phases: {last} began in the last");
+    assert!(last > 10);
+}
+
+/// Full links, counts at the ceiling and the last phase by hand, in areas that
+/// no initial network reaches, with a record area of any length.
+#[test]
+fn steps_at_the_bounds() {
+    for case in by_hand() {
+        let bytes = area::image(&case.state);
+        assert!(raw::rest(&bytes) >= 100, "{} is well formed", case.what);
+        let (answer, after) = compare_step(&bytes, case.step);
+        match case.number {
+            0 => assert!(answer >= 100 && after != bytes, "{}", case.what),
+            number => assert_eq!(answer, u64::from(number), "{}", case.what),
+        }
+        for length in [0, 31, 33] {
+            let (mut area, mut event) = (bytes.clone(), vec![7; length]);
+            assert_eq!(library_step(&mut area, &mut event, case.step), 11);
+            assert!(area == bytes && event == vec![7; length]);
+        }
+    }
+}
+
+/// On any well-formed states 2 is met at each bound: of a step on a state as it
+/// is, and with the station far away from the other bounds. Away from all of
+/// them the step is accepted.
+#[test]
+fn every_bound_is_met() {
+    let mut rng = Rng::new(1);
+    let mut met = [0; 3];
+    for _ in 0..2_500 {
+        let state = any_state(&mut rng);
+        for _ in 0..10 {
+            let habits = Habits::any(&mut rng);
+            let step = in_32_bits(next_step(&mut rng, &state, &habits));
+            let left = bounds_left(&state, step);
+            let (answer, _) = compare_step(&area::image(&state), step);
+            assert_eq!(answer == 2, !left.is_empty(), "{step:?}");
+            if answer == 2 {
+                relieve_and_compare(&state, step, &left);
+            }
+            for (met, bound) in met.iter_mut().zip(Bound::ALL) {
+                *met += u64::from(left.contains(&bound));
+            }
+        }
+    }
+    println!("every_bound_is_met: places, ceiling, last phase {met:?}");
+    assert!(met.iter().all(|&steps| steps > 50), "{met:?}");
+}
+
+/// A step that is refused with 2 is so while one of its bounds is near, and
+/// accepted with none.
+fn relieve_and_compare(state: &State, step: Step, left: &[Bound]) {
+    let compare = |near: Option<Bound>| {
+        let mut state = state.clone();
+        for bound in Bound::ALL.into_iter().filter(|&bound| Some(bound) != near) {
+            bound.relieve(&mut state, step.station());
+        }
+        compare_step(&area::image(&state), step).0
+    };
+    assert!(compare(None) >= 100, "{step:?}");
+    for bound in Bound::ALL {
+        let refused = compare(Some(bound)) == 2;
+        assert_eq!(refused, left.contains(&bound), "{step:?} at {bound:?}");
+    }
+}
+
 #[test]
 fn any_well_formed_state() {
     cases("any_well_formed_state", 800, |rng| {
@@ -283,7 +450,7 @@ fn any_well_formed_state() {
             let state = area::read(&bytes).expect("a step leaves an image");
             let habits = Habits::any(rng);
             let step = in_32_bits(next_step(rng, &state, &habits));
-            bytes = compare_step(&bytes, step);
+            (_, bytes) = compare_step(&bytes, step);
         }
     });
 }
@@ -503,7 +670,7 @@ fn setup_tries_the_area_first() {
     });
 }
 
-/// Where several refusals apply, the one that is told: 2, 4, 7, 5, 8, 6, 9.
+/// Where several refusals apply, the one that is told: 2, 4, 7, 5, 8, 6, 2.
 #[test]
 fn order_of_refusals() {
     let mut header = Header::new(2, 40);
@@ -521,8 +688,8 @@ fn order_of_refusals() {
     state.links[0][1].extend(full);
 
     let ask = |state: &State, step: Step| {
-        let mut bytes = area::image(state);
-        library_step(&mut bytes, &mut EVENT.clone(), step)
+        let (answer, _) = compare_step(&area::image(state), step);
+        answer
     };
     let enter = |station| Step::Enter {
         station,
@@ -558,11 +725,11 @@ fn order_of_refusals() {
     state.stations[0].sent[1] = 1;
     state.stations[0].phase = 999_998;
     for step in [enter(0), send(0, 1), start(0)] {
-        assert_eq!(ask(&state, step), 9);
+        assert_eq!(ask(&state, step), 2);
     }
     state.stations[0].counts[0] = 39;
     assert_eq!(ask(&state, enter(0)), 100);
-    assert_eq!(ask(&state, send(0, 1)), 9);
+    assert_eq!(ask(&state, send(0, 1)), 2);
     state.links[0][1].clear();
     assert_eq!(ask(&state, send(0, 1)), 100);
     assert_eq!(ask(&state, start(0)), 1000 + 4 * 999_998 + 1);
@@ -596,7 +763,7 @@ fn every_answer_is_met() {
             });
         }
     }
-    let refusals = [2, 4, 5, 6, 7, 8, 9, 11];
+    let refusals = [2, 4, 5, 6, 7, 8, 11];
     let all = refusals.into_iter().chain(100..=107).chain(1000..=1002);
     assert!(met.iter().copied().eq(all), "{met:?}");
 }

@@ -8,8 +8,12 @@ use std::path::{Path, PathBuf};
 use std::process::{Command, Stdio};
 use std::thread;
 
-use comparison::cases;
-use reference::generate::{mutated_script, pairs_of, script, script_text, Shape};
+use comparison::{cases, check_refusals};
+use reference::at_bounds::full_links;
+use reference::generate::{mutated_script, network, pairs_of, run_of, script, script_text};
+use reference::generate::{step_text, NetworkWish, Shape};
+use reference::header::Header;
+use reference::network::{State, Step};
 use reference::random::Rng;
 use reference::turnover::turnover;
 
@@ -48,7 +52,8 @@ fn run(program: &Path, input: &[u8]) -> Vec<u8> {
     output
 }
 
-fn compare(program: &Path, input: &[u8]) {
+/// What both write for an input.
+fn compare(program: &Path, input: &[u8]) -> Vec<u8> {
     let (ours, theirs) = (run(program, input), turnover(input));
     if ours != theirs {
         println!("input:\n{}", String::from_utf8_lossy(input));
@@ -56,6 +61,8 @@ fn compare(program: &Path, input: &[u8]) {
         println!("reference:\n{}", String::from_utf8_lossy(&theirs));
         panic!("the outputs differ");
     }
+    check_refusals(&ours);
+    ours
 }
 
 #[test]
@@ -76,6 +83,65 @@ fn long_script() {
         let lines = script(rng, 30_000);
         compare(&program, &script_text(&lines, true));
     });
+}
+
+/// The lines of a header whose links have one limit both ways.
+fn settings(header: &Header) -> String {
+    let mut text = format!("net {} {}\n", header.stations, header.ceiling);
+    for (i, allowance) in header.allowances[..header.n()].iter().enumerate() {
+        text += &format!("allow {i} {allowance}\n");
+        for j in header.neighbours(i).filter(|&j| j < i) {
+            text += &format!("link {i} {j} {}\n", header.limits[i][j]);
+        }
+    }
+    text
+}
+
+/// How many entries of an output have an own count of t.
+fn entries_at(output: &[u8], t: u16) -> usize {
+    let output = String::from_utf8_lossy(output);
+    let at = output.lines().filter(|line| {
+        let words: Vec<&str> = line.split(' ').collect();
+        // A number, "entry", phase and station stand before the counts.
+        let own = |station: usize| words[4 + station].parse() == Ok(t);
+        words.get(1) == Some(&"entry") && words[3].parse().is_ok_and(own)
+    });
+    at.count()
+}
+
+/// How many states of a list of steps have a full link.
+fn states_with_full_links(header: &Header, steps: &[Step]) -> usize {
+    let mut state = State::initial(header).expect("a network");
+    let full = |&&step: &&Step| state.step(step).is_ok() && full_links(&state) > 0;
+    steps.iter().filter(full).count()
+}
+
+/// Networks with the least ceiling that the sums allow: counts reach it and
+/// links fill up, and refused steps print 4 to 8.
+#[test]
+fn scripts_at_the_least_ceiling() {
+    let program = program();
+    let mut rng = Rng::new(1);
+    let (mut at_ceiling, mut full) = (0, 0);
+    for _ in 0..150 {
+        let wish = NetworkWish {
+            symmetric: true,
+            small: true,
+            tight: true,
+            fewest: 2,
+            most: 4,
+            ..NetworkWish::default()
+        };
+        let header = network(&mut rng, wish);
+        let steps = run_of(&mut rng, &header, 400).steps;
+        let lines: Vec<String> = steps.iter().map(step_text).collect();
+        let input = settings(&header) + &lines.join("\n");
+        let output = compare(&program, input.as_bytes());
+        at_ceiling += entries_at(&output, header.ceiling);
+        full += states_with_full_links(&header, &steps);
+    }
+    println!("scripts_at_the_least_ceiling: {at_ceiling} entries there, {full} times a full link");
+    assert!(at_ceiling > 100 && full > 100);
 }
 
 /// Networks whose links write their limit or leave it out, with the least
@@ -126,8 +192,8 @@ fn sends_up_to_the_limit() {
     ] {
         for (i, j) in [(0, 1), (1, 0)] {
             let input = format!("net 2 64\n{links}") + &format!("send {i} {j} 9\n").repeat(20);
-            compare(&program, input.as_bytes());
-            let printed = String::from_utf8(run(&program, input.as_bytes())).expect("a text");
+            let printed = compare(&program, input.as_bytes());
+            let printed = String::from_utf8(printed).expect("a text");
             let entries = printed.lines().filter(|line| line.contains("entry"));
             assert_eq!(entries.count(), limit, "{input}");
         }
@@ -155,8 +221,8 @@ fn news_along_a_path() {
             input += &format!("send {from} {to} 2\nrecv {to} {from}\n");
         }
         input += &format!("recv {last} {first}\n");
-        compare(&program, input.as_bytes());
-        let printed = String::from_utf8(run(&program, input.as_bytes())).expect("a text");
+        let printed = compare(&program, input.as_bytes());
+        let printed = String::from_utf8(printed).expect("a text");
         // A number, "entry", phase, station and n counts stand before it.
         let news = |line: &str| line.split(' ').nth(4 + n).map(str::to_owned);
         let printed: Vec<Option<String>> = printed.lines().map(news).collect();
@@ -203,8 +269,7 @@ fn examples() {
         count += 1;
         let input = fs::read(&path).expect("the input");
         let expected = fs::read(path.with_extension("out")).expect("the output");
-        assert_eq!(run(&program, &input), expected, "{}", path.display());
-        assert_eq!(turnover(&input), expected, "{}", path.display());
+        assert_eq!(compare(&program, &input), expected, "{}", path.display());
     }
     assert!(count >= 40, "{count} examples");
 }

@@ -20,8 +20,8 @@ use std::time::{Duration, Instant};
 use std::{env, fs, process};
 
 use melontime::{
-    archive_bytes, Archive, Header, InMode, Kind, Mode, Network, Outcome, Receipt, Record, Refusal,
-    Verdict,
+    archive_bytes, Archive, Header, InMode, Kind, Mode, Outcome, Reached, Receipt, Record, Refusal,
+    StepRefusal, Verdict,
 };
 
 const STATIONS: u32 = 4;
@@ -95,7 +95,7 @@ impl Request {
 /// A reply, 34 bytes: a letter and what belongs to it.
 #[derive(Clone, Copy)]
 enum Reply {
-    Refused(Refusal),
+    Refused(StepRefusal),
     Entry(Record),
     Receipt(Receipt),
     Control(InMode),
@@ -139,7 +139,7 @@ impl Reply {
         let record = || Record::try_from(&bytes[1..33]).ok();
         let news = bytes[33];
         match (bytes[0], bytes[1]) {
-            (b'n', number) => Refusal::from_number(number.into()).map(Reply::Refused),
+            (b'n', number) => StepRefusal::from_number(number.into()).map(Reply::Refused),
             (b'e', _) => record().map(Reply::Entry),
             (b'r', _) => record().map(|record| Reply::Receipt(Receipt { record, news })),
             (b'm', 0) => control(Mode::Normal),
@@ -156,7 +156,7 @@ impl Reply {
 /// What the host keeps: the network, the accepted records in the order of the
 /// steps, and the news of each receipt by the register number of its message.
 struct Register {
-    network: Network,
+    network: Reached,
     records: Vec<Record>,
     news: HashMap<u32, u8>,
     /// Stations that have finished.
@@ -181,7 +181,7 @@ impl Register {
                 Ok(Reply::Is(true))
             }
             Request::Over => {
-                let over = self.finished == STATIONS && network.is_quiescent();
+                let over = self.finished == STATIONS && network.network().is_quiescent();
                 Ok(Reply::Is(over))
             }
         };
@@ -260,7 +260,7 @@ impl Station {
                     some = true;
                 }
                 Reply::Control(_) => some = true,
-                Reply::Refused(Refusal::EmptyLink) => {}
+                Reply::Refused(StepRefusal::EmptyLink) => {}
                 _ => return Err(io::ErrorKind::InvalidData.into()),
             }
         }
@@ -283,11 +283,11 @@ impl Station {
                 }
                 Ok(true)
             }
-            Reply::Refused(Refusal::UsedUp) => match self.ask(Request::Start)? {
-                Reply::Control(_) | Reply::Refused(Refusal::ModeForbids) => Ok(false),
+            Reply::Refused(StepRefusal::UsedUp) => match self.ask(Request::Start)? {
+                Reply::Control(_) | Reply::Refused(StepRefusal::ModeForbids) => Ok(false),
                 _ => Err(io::ErrorKind::InvalidData.into()),
             },
-            Reply::Refused(Refusal::ModeForbids) => Ok(false),
+            Reply::Refused(StepRefusal::ModeForbids) => Ok(false),
             _ => Err(io::ErrorKind::InvalidData.into()),
         }
     }
@@ -337,7 +337,7 @@ impl Station {
 /// Runs the host and the stations, and answers what the host has kept.
 fn keep_register(header: &Header) -> Result<Register, Box<dyn Error>> {
     let register = Arc::new(Mutex::new(Register {
-        network: Network::setup(header)?,
+        network: Reached::setup(header)?,
         records: Vec::new(),
         news: HashMap::new(),
         finished: 0,
@@ -372,8 +372,9 @@ fn keep_register(header: &Header) -> Result<Register, Box<dyn Error>> {
     }
     let register = Arc::into_inner(register).ok_or("a thread has not ended")?;
     let register = register.into_inner().map_err(|_| "a server has panicked")?;
-    assert!(register.network.is_quiescent());
-    assert_eq!(register.network.header(), *header);
+    let network = register.network.network();
+    assert!(network.is_quiescent());
+    assert_eq!(network.header(), *header);
     Ok(register)
 }
 

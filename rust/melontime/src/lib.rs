@@ -11,7 +11,9 @@
 //! steps, the [`Record`] of an event, the [`Receipt`] of a message with its
 //! news, the [`Verdict`] on two records, header and entries blocks, and the
 //! [`Archive`]. A refused call is an `Err` with its [`Refusal`], and changes
-//! nothing. A station is named by a `u32`, everywhere.
+//! nothing. A station is named by a `u32`, everywhere. A [`Reached`] network is
+//! one that comes from setup by steps alone; its steps have five causes to be
+//! refused, and no other.
 //!
 //! # A network
 //!
@@ -72,12 +74,14 @@ mod archive;
 mod blocks;
 mod network;
 pub mod raw;
+mod reached;
 mod record;
 mod refusal;
 
 pub use archive::{archive_bytes, Archive, Records};
 pub use blocks::{write_entries, EntriesBlock, Header};
 pub use network::{InMode, Mode, Network, NetworkMut, Outcome, Receipt};
+pub use reached::{Reached, StepRefusal};
 pub use record::{verdict, Kind, Record, Verdict};
 pub use refusal::Refusal;
 

@@ -97,6 +97,11 @@ pub enum Outcome {
 /// Stations and peers may be any numbers; those that the network lacks are
 /// refused with [`Refusal::NoSuchStation`].
 ///
+/// Bytes may be the state of a network that no initial one reaches. A step on
+/// them that would leave a bound is refused with [`Refusal::IllFormedState`],
+/// after all other causes. [`Reached`](crate::Reached) is a network that comes
+/// from setup by steps alone, and never meets it.
+///
 /// ```
 /// use melontime::{Header, InMode, Mode, Network, Refusal};
 ///
@@ -268,8 +273,9 @@ impl<A: DerefMut<Target = [u8]>> Network<A> {
     /// # Errors
     ///
     /// [`Refusal::NoSuchStation`]; [`Refusal::UsedUp`] where the station's
-    /// allowance of this phase is used up; [`Refusal::BeyondBound`] where its
-    /// count would be above the ceiling.
+    /// allowance of this phase is used up; and, on bytes that no initial network
+    /// reaches, [`Refusal::IllFormedState`] where its count would be above the
+    /// ceiling.
     pub fn enter(&mut self, station: u32, register: u32) -> Result<Record, Refusal> {
         let mut event = [0; RECORD];
         match raw::enter(&mut self.area, &mut event, station, register) {
@@ -285,8 +291,9 @@ impl<A: DerefMut<Target = [u8]>> Network<A> {
     /// [`Refusal::NoSuchStation`], also for a peer that is no neighbour;
     /// [`Refusal::ModeForbids`] where the station is mute, or in stand-by and
     /// has not seen the peer's `reset_done`; [`Refusal::UsedUp`] where the link's
-    /// limit of this phase is used up; [`Refusal::BeyondBound`] where the
-    /// station's count would be above the ceiling, or the link has no place.
+    /// limit of this phase is used up; and, on bytes that no initial network
+    /// reaches, [`Refusal::IllFormedState`] where the station's count would be
+    /// above the ceiling, or the link has no place.
     ///
     /// ```
     /// use melontime::{Header, Network, Refusal};
@@ -323,9 +330,10 @@ impl<A: DerefMut<Target = [u8]>> Network<A> {
     /// # Errors
     ///
     /// [`Refusal::NoSuchStation`], also for a peer that is no neighbour;
-    /// [`Refusal::EmptyLink`]; [`Refusal::BeyondBound`] where the station's
-    /// count would be above the ceiling or its phase above 999,999, or a link
-    /// has no place for a control item.
+    /// [`Refusal::EmptyLink`]; and, on bytes that no initial network reaches,
+    /// [`Refusal::IllFormedState`] where the station's count would be above the
+    /// ceiling or its phase above 999,999, or a link has no place for a control
+    /// item.
     ///
     /// ```
     /// use melontime::{Header, InMode, Mode, Network, Outcome, Refusal};
@@ -358,8 +366,9 @@ impl<A: DerefMut<Target = [u8]>> Network<A> {
     /// # Errors
     ///
     /// [`Refusal::NoSuchStation`]; [`Refusal::ModeForbids`] where the station
-    /// is not normal; [`Refusal::LastPhase`] in phase 999,999;
-    /// [`Refusal::BeyondBound`] where a link has no place for a control item.
+    /// is not normal; [`Refusal::LastPhase`] in phase 999,999; and, on bytes that
+    /// no initial network reaches, [`Refusal::IllFormedState`] where a link has
+    /// no place for a control item.
     pub fn start(&mut self, station: u32) -> Result<InMode, Refusal> {
         let mut event = [0; RECORD];
         in_mode("start", raw::start(&mut self.area, &mut event, station))

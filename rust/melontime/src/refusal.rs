@@ -24,7 +24,11 @@ use std::fmt;
 pub enum Refusal {
     /// 1: a block, record or archive of wrong length, check, field or spare byte.
     Malformed = 1,
-    /// 2: bytes that are no image of a well-formed network.
+    /// 2: bytes that are no image of a well-formed network; or a step on the
+    /// bytes of a network that steps from an initial one do not lead to, after
+    /// which a link would hold more than its limit and 2 items, a count would be
+    /// above the ceiling, or a phase above 999,999. No step of a
+    /// [`Reached`](crate::Reached) network meets it.
     IllFormedState = 2,
     /// 3: a well-made header breaks a network rule.
     NetworkRule = 3,
@@ -38,8 +42,6 @@ pub enum Refusal {
     EmptyLink = 7,
     /// 8: start in phase 999,999.
     LastPhase = 8,
-    /// 9: an item, count or phase would be beyond its bound.
-    BeyondBound = 9,
     /// 10: a verdict on records of different phases.
     DifferentPhases = 10,
     /// 11: an area or list that is too small, or of another length than asked.
@@ -59,7 +61,6 @@ impl Refusal {
         Refusal::UsedUp,
         Refusal::EmptyLink,
         Refusal::LastPhase,
-        Refusal::BeyondBound,
         Refusal::DifferentPhases,
         Refusal::AreaLength,
         Refusal::NoSuchRecord,
@@ -83,14 +84,15 @@ impl fmt::Display for Refusal {
     fn fmt(&self, f: &mut fmt::Formatter<'_>) -> fmt::Result {
         let cause = match self {
             Refusal::Malformed => "a block, record or archive is not well made",
-            Refusal::IllFormedState => "the bytes are no image of a well-formed network",
+            Refusal::IllFormedState => {
+                "the bytes are no well-formed network, or one that no initial network reaches"
+            }
             Refusal::NetworkRule => "the header breaks a network rule",
             Refusal::NoSuchStation => "no such station or neighbour",
             Refusal::ModeForbids => "the station's mode forbids it",
             Refusal::UsedUp => "the allowance or limit of this phase is used up",
             Refusal::EmptyLink => "the link is empty",
             Refusal::LastPhase => "the phase is the last",
-            Refusal::BeyondBound => "an item, count or phase would be beyond its bound",
             Refusal::DifferentPhases => "the records are of different phases",
             Refusal::AreaLength => "an area has the wrong length",
             Refusal::NoSuchRecord => "no such record, or no such number of records",

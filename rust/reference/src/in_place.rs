@@ -158,10 +158,11 @@ impl At<'_> {
         put_station(&mut self.area[station_at(i)..][..STATION], &self.station);
     }
 
+    /// The own count + 1; 2 where that is above the ceiling.
     fn own_count_after(&self) -> Result<u16, Refusal> {
         match self.station.counts[self.i] {
             own if own < self.ceiling => Ok(own + 1),
-            _ => Err(Refusal::BeyondBound),
+            _ => Err(Refusal::IllFormedState),
         }
     }
 
@@ -210,7 +211,7 @@ impl At<'_> {
         let link = self.link(i, j);
         let length = usize::from(link[0]);
         if length >= places(limit) {
-            return Err(Refusal::BeyondBound);
+            return Err(Refusal::IllFormedState);
         }
         link[0] += 1;
         let item = &mut link[1 + ITEM * length..][..ITEM];
@@ -288,7 +289,8 @@ impl At<'_> {
             .all(|(&limit, &seen)| limit == 0 || seen)
     }
 
-    /// The reset rules on the station's copy, then the bounds, then the writing.
+    /// The reset rules on the station's copy, then the bounds, which are 2 where
+    /// the state after would leave one, then the writing.
     fn turn(&mut self, mut controls: Controls) -> Outcome {
         loop {
             let station = &self.station;
@@ -313,7 +315,7 @@ impl At<'_> {
             }
         }
         if self.station.phase > LAST_PHASE {
-            return Err(Refusal::BeyondBound);
+            return Err(Refusal::IllFormedState);
         }
         self.put_controls(&controls.kinds[..controls.length])?;
         self.put(self.i);
@@ -323,7 +325,8 @@ impl At<'_> {
         })
     }
 
-    /// Puts controls on every link out, where all of them have places for it.
+    /// Puts controls on every link out, where all of them have places for it;
+    /// else 2, and no link is changed.
     fn put_controls(&mut self, kinds: &[u8]) -> Result<(), Refusal> {
         if kinds.is_empty() {
             return Ok(());
@@ -333,7 +336,7 @@ impl At<'_> {
         for j in neighbours.clone() {
             let length = usize::from(self.link(i, j)[0]);
             if length + kinds.len() > places(limits[j]) {
-                return Err(Refusal::BeyondBound);
+                return Err(Refusal::IllFormedState);
             }
         }
         for j in neighbours {

@@ -12,21 +12,23 @@
 //!
 //! | module | section of document 01 |
 //! |---|---|
-//! | [`refusal`] | 'State area and host', the table of numbers |
+//! | [`refusal`] | 'State area and host', the table of numbers; document 02, CR 9 |
 //! | [`check`], [`header`], [`entries`], [`record`] | 'Archive blocks'; document 02, CR 3 |
 //! | [`order`] | 'Plain network and recorded order', timestamp order and verdicts |
 //! | [`archive`] | 'Archive blocks', archives, readers and lists |
-//! | [`network`] | 'The network', 'What a station holds', 'The steps', 'State area and host'; document 02, CR 5 and CR 7 |
+//! | [`network`] | 'The network', 'What a station holds', 'The steps', 'State area and host'; document 02, CR 5, CR 7 and CR 9 |
 //! | [`area`], [`in_place`] | 'State area and host', with the layout of docs/LAYOUT.md |
 //! | [`causality`] | 'Plain network and recorded order', demand 3 |
 //! | [`turnover`] | 'turnover'; document 02, CR 1 and CR 7 |
 //! | [`random`], [`generate`] | none: inputs for tests and comparisons |
+//! | [`at_bounds`] | document 02, CR 9: the same, by hand |
 
 #![forbid(unsafe_code)]
 #![warn(missing_docs)]
 
 pub mod archive;
 pub mod area;
+pub mod at_bounds;
 pub mod causality;
 pub mod check;
 pub mod entries;

@@ -1,5 +1,5 @@
 //! The network with resets: 'The network', 'What a station holds', 'The steps'
-//! and 'State area and host' in document 01; CR 5 and CR 7 in document 02.
+//! and 'State area and host' in document 01; CR 5, CR 7 and CR 9 in document 02.
 //!
 //! A state is a Rust value here and has no byte layout. All its fields are
 //! public, so that any state can be built, also one that no initial network
@@ -354,8 +354,10 @@ impl State {
 
     // ----- the steps ('The steps') -----
 
-    /// A step; a refused one leaves the state. Refusals 2, 4, 7, 5, 8, 6, 9,
-    /// in this order.
+    /// A step; a refused one leaves the state. Refusals 2, 4, 7, 5, 8, 6, 2, in
+    /// this order: the last for a state after the step that would have an item,
+    /// count or phase beyond its bound. From an initial network no list of steps
+    /// meets a 2.
     pub fn step(&mut self, step: Step) -> Outcome {
         if !self.is_well_formed() {
             return Err(Refusal::IllFormedState);
@@ -364,7 +366,7 @@ impl State {
     }
 
     /// A step of a state that is known to be well formed. Refusals 4, 7, 5, 8,
-    /// 6, 9, in this order.
+    /// 6, 2, in this order.
     pub fn step_well_formed(&mut self, step: Step) -> Outcome {
         match step {
             Step::Enter { station, register } => self.enter(station, register),
@@ -411,13 +413,13 @@ impl State {
         }
     }
 
-    /// The own count + 1; 9 where that is above t.
+    /// The own count + 1; 2 where that is above t.
     fn own_count_after(&self, i: usize) -> Result<u16, Refusal> {
         let own = self.stations[i].counts[i];
         if own < self.header.ceiling {
             Ok(own + 1)
         } else {
-            Err(Refusal::BeyondBound)
+            Err(Refusal::IllFormedState)
         }
     }
 
@@ -466,7 +468,7 @@ impl State {
         }
         let own = self.own_count_after(i)?;
         if self.links[i][j].len() + 1 > self.places(i, j) {
-            return Err(Refusal::BeyondBound);
+            return Err(Refusal::IllFormedState);
         }
         let station = &mut self.stations[i];
         station.counts[i] = own;
@@ -495,7 +497,7 @@ impl State {
     }
 
     /// A message: the counts are raised by its counts; that is an entry, with
-    /// the message's register number. 9 where the own count would be above t.
+    /// the message's register number. 2 where the own count would be above t.
     fn recv_message(&mut self, i: usize, j: usize, message: Message) -> Outcome {
         self.own_count_after(i)?;
         self.links[j][i].pop_front();
@@ -520,7 +522,7 @@ impl State {
     }
 
     /// Does something to a copy of the state, then runs the reset rules of
-    /// station i there. 9 where the state after has an item or a phase beyond
+    /// station i there. 2 where the state after has an item or a phase beyond
     /// its bound; else it becomes the state, and the mode and phase after are
     /// the answer.
     fn turn(&mut self, i: usize, change: impl FnOnce(&mut State)) -> Outcome {
@@ -529,7 +531,7 @@ impl State {
         after.run_reset_rules(i);
         let links_fit = (0..MAX_STATIONS).all(|j| after.links[i][j].len() <= after.places(i, j));
         if !links_fit || after.stations[i].phase > LAST_PHASE {
-            return Err(Refusal::BeyondBound);
+            return Err(Refusal::IllFormedState);
         }
         *self = after;
         Ok(Answer::Mode {

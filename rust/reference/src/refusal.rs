@@ -1,5 +1,5 @@
 //! The causes of a refusal and their numbers: the table of 'State area and
-//! host' in document 01.
+//! host' in document 01; CR 9 in document 02.
 
 use std::fmt;
 
@@ -8,7 +8,8 @@ use std::fmt;
 pub enum Refusal {
     /// 1: a block, record or archive of wrong length, check, field or spare byte.
     Malformed,
-    /// 2: not a well-formed state.
+    /// 2: not a well-formed state; or a step on one that no initial network
+    /// reaches, after which an item, count or phase would be beyond its bound.
     IllFormedState,
     /// 3: a well-made header breaks a network rule.
     NetworkRule,
@@ -22,8 +23,6 @@ pub enum Refusal {
     EmptyLink,
     /// 8: start in phase 999,999.
     LastPhase,
-    /// 9: the state after would have an item, count or phase beyond its bound.
-    BeyondBound,
     /// 10: verdict on records of different phases.
     DifferentPhases,
     /// 11: a list, write or read buffer too small, or an area of another length.
@@ -34,7 +33,7 @@ pub enum Refusal {
 
 impl Refusal {
     /// Every refusal, by rising number.
-    pub const ALL: [Refusal; 12] = [
+    pub const ALL: [Refusal; 11] = [
         Refusal::Malformed,
         Refusal::IllFormedState,
         Refusal::NetworkRule,
@@ -43,7 +42,6 @@ impl Refusal {
         Refusal::UsedUp,
         Refusal::EmptyLink,
         Refusal::LastPhase,
-        Refusal::BeyondBound,
         Refusal::DifferentPhases,
         Refusal::BufferLength,
         Refusal::NoSuchRecord,
@@ -60,7 +58,6 @@ impl Refusal {
             Refusal::UsedUp => 6,
             Refusal::EmptyLink => 7,
             Refusal::LastPhase => 8,
-            Refusal::BeyondBound => 9,
             Refusal::DifferentPhases => 10,
             Refusal::BufferLength => 11,
             Refusal::NoSuchRecord => 12,

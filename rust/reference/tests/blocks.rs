@@ -30,14 +30,16 @@ fn own_record() -> Record {
     }
 }
 
+/// The numbers 1 to 12, of which 9 has no cause.
 #[test]
 fn refusal_numbers() {
-    for (k, refusal) in Refusal::ALL.into_iter().enumerate() {
-        assert_eq!(usize::from(refusal.number()), k + 1);
-        assert_eq!(Refusal::from_number(refusal.number()), Some(refusal));
+    let numbers = [1, 2, 3, 4, 5, 6, 7, 8, 10, 11, 12];
+    assert_eq!(Refusal::ALL.map(Refusal::number), numbers);
+    for number in 0..=u8::MAX {
+        let refusal = Refusal::from_number(number);
+        assert_eq!(refusal.is_some(), numbers.contains(&number));
+        assert!(refusal.is_none_or(|refusal| refusal.number() == number));
     }
-    assert_eq!(Refusal::from_number(0), None);
-    assert_eq!(Refusal::from_number(13), None);
 }
 
 /// The two check vectors that the document marks (M).

@@ -1,6 +1,7 @@
 //! The image of a state, and the calls on a lent area and on an archive in both
 //! ways.
 
+use reference::at_bounds::by_hand;
 use reference::check::{seal, BLOCK};
 use reference::generate::{admitted_record, any_archive, any_network, any_ranged_header};
 use reference::generate::{any_record, any_state, damaged_archive, damaged_header_block};
@@ -157,6 +158,19 @@ fn steps_in_both_ways() {
             };
             bytes = both(&bytes, step);
         }
+    }
+}
+
+#[test]
+fn steps_at_the_bounds_in_both_ways() {
+    for case in by_hand() {
+        let before = area::image(&case.state);
+        let after = both(&before, case.step);
+        let accepted = case.number == 0;
+        assert_eq!(after != before, accepted, "{}", case.what);
+        let outcome = in_place::step(&mut before.clone(), &mut EVENT.clone(), case.step);
+        let number = outcome.map_or_else(|refusal| refusal.number(), |_| 0);
+        assert_eq!(number, case.number, "{}", case.what);
     }
 }
 

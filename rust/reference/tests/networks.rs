@@ -1,9 +1,13 @@
 //! The steps, their refusals and well-formed states: 'The steps' and 'State
-//! area and host' of document 01.
+//! area and host' of document 01; CR 9 of document 02.
 
-use reference::generate::{self, Habits, NetworkWish, Shape, StateDamage};
+use std::collections::HashSet;
+use std::hash::{BuildHasher, RandomState};
+
+use reference::at_bounds::{self, bounds_left, counts_at_the_ceiling, full_links, Bound};
+use reference::generate::{self, every_step, Habits, NetworkWish, Shape, StateDamage};
 use reference::header::Header;
-use reference::network::{Answer, Item, Message, Mode, Outcome, State, Step, EXTRA_PLACES};
+use reference::network::{Answer, Item, Message, Mode, Outcome, State, Step};
 use reference::random::Rng;
 use reference::record::{Kind, Record, NO_PEER};
 use reference::refusal::Refusal;
@@ -308,7 +312,7 @@ fn entries_in_every_mode() {
     assert_eq!(phase_of(&mut state, 0), (1, 1));
 }
 
-/// The order 4, 7, 5, 8, 6, 9 where several apply.
+/// The order 2, 4, 7, 5, 8, 6, 2 where several apply.
 #[test]
 fn order_of_refusals() {
     let mut base = path();
@@ -325,20 +329,20 @@ fn order_of_refusals() {
     };
     let ceiling = base.header.ceiling;
 
-    // 5 before 8 and 9.
+    // 5 before 8 and the last.
     let mut state = base.clone();
     state.station_mut(0).mode = Mode::Mute;
     full(&mut state, 0, 1);
     assert_eq!(try_step(&mut state, start(0)), 5);
     state.station_mut(0).mode = Mode::StandBy;
     assert_eq!(try_step(&mut state, start(0)), 5);
-    // 8 before 9.
+    // 8 before the last.
     state.station_mut(0).mode = Mode::Normal;
     assert_eq!(try_step(&mut state, start(0)), 8);
     state.station_mut(0).phase = LAST_PHASE - 1;
-    assert_eq!(try_step(&mut state, start(0)), 9);
+    assert_eq!(try_step(&mut state, start(0)), 2);
 
-    // 5 before 6 and 9.
+    // 5 before 6 and the last.
     let mut state = base.clone();
     full(&mut state, 0, 1);
     state.station_mut(0).mode = Mode::Mute;
@@ -348,24 +352,24 @@ fn order_of_refusals() {
     state.station_mut(0).mode = Mode::StandBy;
     state.station_mut(0).done_seen[1] = false;
     assert_eq!(try_step(&mut state, send(0, 1, 0)), 5);
-    // 6 before 9.
+    // 6 before the last.
     state.station_mut(0).done_seen[1] = true;
     assert_eq!(try_step(&mut state, send(0, 1, 0)), 6);
     state.station_mut(0).sent[1] = 1;
-    assert_eq!(try_step(&mut state, send(0, 1, 0)), 9);
+    assert_eq!(try_step(&mut state, send(0, 1, 0)), 2);
     assert_eq!(try_step(&mut state, enter(0, 0)), 6);
     state.station_mut(0).own_entries = 2;
-    assert_eq!(try_step(&mut state, enter(0, 0)), 9);
-    // 7 before 9.
+    assert_eq!(try_step(&mut state, enter(0, 0)), 2);
+    // 7 before the last.
     assert_eq!(try_step(&mut state, recv(0, 1)), 7);
     let message = Message {
         register: 0,
         counts: [0; 8],
     };
     state.link_mut(1, 0).push_back(Item::Message(message));
-    assert_eq!(try_step(&mut state, recv(0, 1)), 9);
+    assert_eq!(try_step(&mut state, recv(0, 1)), 2);
 
-    // 2 before all others, and 11 before 2.
+    // The 2 of an ill-formed state before all others, and 11 before it.
     let mut ill = base.clone();
     ill.station_mut(0).counts[5] = 1;
     for step in [enter(9, 0), send(0, 0, 0), recv(0, 1), start(0)] {
@@ -400,70 +404,64 @@ fn record_buffer() {
     assert_eq!(Record::read(&buffer), Ok(record));
 }
 
-/// Number 9 on well-formed states that no fresh network reaches.
+/// Full links, counts at the ceiling and the last phase, on well-formed states
+/// that no initial network reaches: where a step would leave a bound it is
+/// refused with 2, after 4, 7, 5, 8 and 6, and the state is left.
 #[test]
-fn number_9_by_hand() {
-    let ceiling = path().header.ceiling;
-    let message = |own: u16| {
-        Item::Message(Message {
-            register: 4,
-            counts: [0, own, 0, 0, 0, 0, 0, 0],
-        })
-    };
+fn steps_at_the_bounds() {
+    let (mut numbers, mut left) = ([0; 13], [0; 3]);
+    for case in at_bounds::by_hand() {
+        let mut state = case.state.clone();
+        assert!(state.is_well_formed(), "{}", case.what);
+        let number = try_step(&mut state, case.step);
+        assert_eq!(number, case.number, "{}: {:?}", case.what, case.step);
+        numbers[usize::from(number)] += 1;
+        tally(&mut left, &bounds_left(&case.state, case.step));
+    }
+    println!("cases by number {numbers:?}, by bound {left:?}");
+    for number in [0, 2, 4, 5, 6, 7, 8] {
+        assert!(numbers[number] > 0, "{number}");
+    }
+    assert!(left.iter().all(|&cases| cases > 3), "{left:?}");
+}
 
-    // A count at the ceiling.
-    let mut state = path();
-    state.station_mut(0).counts[0] = ceiling;
-    assert!(state.is_well_formed());
-    assert_eq!(try_step(&mut state, enter(0, 0)), 9);
-    assert_eq!(try_step(&mut state, send(0, 1, 0)), 9);
-    state.link_mut(1, 0).push_back(message(1));
-    assert_eq!(try_step(&mut state, recv(0, 1)), 9);
-    state.station_mut(0).counts[0] = ceiling - 1;
-    assert_eq!(try_step(&mut state, recv(0, 1)), 0);
+/// Adds one for each of these bounds.
+fn tally(met: &mut [u32; 3], left: &[Bound]) {
+    for (count, bound) in met.iter_mut().zip(Bound::ALL) {
+        *count += u32::from(left.contains(&bound));
+    }
+}
+
+/// What is accepted just within the bounds.
+#[test]
+fn answers_at_the_bounds() {
+    let ceiling = path().header.ceiling;
+    let counts = [0, ceiling, 0, 0, 0, 0, 0, 0];
+    let message = Item::Message(Message {
+        register: 4,
+        counts,
+    });
+
     // Other counts may stand at the ceiling.
     let mut state = path();
     state.station_mut(0).counts[1] = ceiling;
-    state.link_mut(1, 0).push_back(message(ceiling));
+    state.link_mut(1, 0).push_back(message);
     assert_eq!(try_step(&mut state, recv(0, 1)), 0);
     assert_eq!(state.station(0).counts[..3], [1, ceiling, 0]);
 
-    // A link with L + 2 messages.
+    // L + 2 messages are well formed.
     let mut state = path();
     for _ in 0..4 {
+        state.link_mut(0, 1).push_back(message);
         assert!(state.is_well_formed());
-        state.link_mut(0, 1).push_back(message(1));
     }
-    assert!(state.is_well_formed());
-    assert_eq!(try_step(&mut state, send(0, 1, 0)), 9);
-    assert_eq!(try_step(&mut state, start(0)), 9);
-    state.link_mut(0, 1).pop_front();
-    assert_eq!(try_step(&mut state.clone(), send(0, 1, 0)), 0);
-    assert_eq!(try_step(&mut state, start(0)), 0);
+    state.link_mut(0, 1).push_back(message);
+    assert!(!state.is_well_formed());
 
-    // Begin and reset at once need two places.
-    for (items, want) in [(2, 0), (3, 9), (4, 9)] {
-        let mut state = path();
-        state.link_mut(1, 0).push_back(Item::ResetReq);
-        for _ in 0..items {
-            state.link_mut(0, 1).push_back(message(1));
-        }
-        assert_eq!(try_step(&mut state, recv(0, 1)), want, "{items}");
-    }
-    // A receipt that turns nothing needs none.
+    // Into the last phase, but not out of it.
     let mut state = path();
-    state.link_mut(1, 0).push_back(Item::ResetDone);
-    for _ in 0..4 {
-        state.link_mut(0, 1).push_back(message(1));
-    }
-    assert_eq!(try_step(&mut state, recv(0, 1)), 0);
-
-    // The phase after 999,999.
-    let mut state = path();
-    state.station_mut(0).phase = LAST_PHASE;
-    state.link_mut(1, 0).push_back(Item::ResetReq);
-    assert_eq!(try_step(&mut state, recv(0, 1)), 9);
     state.station_mut(0).phase = LAST_PHASE - 1;
+    state.link_mut(1, 0).push_back(Item::ResetReq);
     assert_eq!(state.step(recv(0, 1)), mode(Mode::StandBy, LAST_PHASE));
     // A station with two neighbours may begin there, but not reset.
     let mut state = path();
@@ -471,12 +469,7 @@ fn number_9_by_hand() {
     state.link_mut(0, 1).push_back(Item::ResetReq);
     state.link_mut(2, 1).push_back(Item::ResetReq);
     assert_eq!(state.step(recv(1, 0)), mode(Mode::Mute, LAST_PHASE));
-    assert_eq!(try_step(&mut state, recv(1, 2)), 9);
-    // Also where the item that is taken has no part in it.
-    state.station_mut(1).req_seen[2] = true;
-    state.link_mut(2, 1).clear();
-    state.link_mut(2, 1).push_back(Item::ResetDone);
-    assert_eq!(try_step(&mut state, recv(1, 2)), 9);
+    assert_eq!(try_step(&mut state, recv(1, 2)), 2);
 }
 
 /// A receipt's own count is the receiver's own plus 1, never the message's.
@@ -679,13 +672,13 @@ fn ill_formed_states() {
 
 /// From any well-formed state: a refusal leaves it, an accepted step leaves a
 /// well-formed one that differs only where it may, the rules end, and every
-/// number from 4 to 9 is met.
+/// number from 4 to 8 is met, and 2 at each bound.
 #[test]
 fn steps_from_any_state() {
     let seed = 21;
     println!("seed {seed}");
     let mut rng = Rng::new(seed);
-    let mut met = [0; 13];
+    let (mut met, mut left) = ([0; 13], [0; 3]);
     for _ in 0..30_000 {
         let mut state = generate::any_state(&mut rng);
         assert!(state.is_well_formed());
@@ -698,6 +691,9 @@ fn steps_from_any_state() {
             let before = state.clone();
             let outcome = state.step(step);
             met[usize::from(number(outcome))] += 1;
+            let beyond = bounds_left(&before, step);
+            assert_eq!(outcome == Err(Refusal::IllFormedState), !beyond.is_empty());
+            tally(&mut left, &beyond);
             if outcome.is_err() {
                 assert_eq!(state, before);
                 continue;
@@ -715,68 +711,200 @@ fn steps_from_any_state() {
             }
         }
     }
-    println!("numbers met {met:?}");
-    for refusal in [0, 4, 5, 6, 7, 8, 9] {
+    println!("numbers met {met:?}, bounds {left:?}");
+    for refusal in [0, 2, 4, 5, 6, 7, 8] {
         assert!(met[refusal] > 100, "{refusal}: {met:?}");
     }
-    assert_eq!(met[2], 0);
+    assert!(left.iter().all(|&steps| steps > 100), "{left:?}");
 }
 
-/// From an initial network number 9 is never met; 4, 5, 6 and 7 are; after
-/// receipts alone every link is empty and the network rests.
+/// What runs from initial networks meet.
+#[derive(Debug, Default)]
+struct Met {
+    /// Steps by their number, 0 for accepted ones.
+    numbers: [u32; 13],
+    /// Resets that ended, and steps of rule b and then rule c.
+    resets: u32,
+    cascades: u32,
+    /// States with a count at the ceiling, in networks with links, and states
+    /// with a full link.
+    at_ceiling: u32,
+    full: u32,
+}
+
+impl Met {
+    /// Takes a step, and looks at the state after it.
+    fn step(&mut self, state: &mut State, step: Step) -> Outcome {
+        let station = state.stations.get(step.station());
+        let stand_by = station.is_some_and(|station| station.mode == Mode::StandBy);
+        let outcome = state.step(step);
+        self.numbers[usize::from(number(outcome))] += 1;
+        for i in 0..state.n() {
+            assert_eq!(state.applicable_rule(i), None);
+        }
+        if let (Ok(Answer::Mode { mode, .. }), Step::Recv { .. }) = (outcome, step) {
+            self.resets += u32::from(mode == Mode::Normal);
+            self.cascades += u32::from(stand_by && mode == Mode::Mute);
+        }
+        let (at_ceiling, full) = at_bounds_of(state);
+        self.at_ceiling += u32::from(at_ceiling);
+        self.full += u32::from(full);
+        outcome
+    }
+
+    /// These numbers were met so often at least, and no other; counts reached
+    /// the ceiling, and links were filled.
+    fn judge(&self, numbers: &[usize], least: u32) {
+        println!("{self:?}");
+        for (number, &steps) in self.numbers.iter().enumerate() {
+            let met = numbers.contains(&number);
+            assert!(if met { steps >= least } else { steps == 0 }, "{number}");
+        }
+        assert!(self.at_ceiling >= least && self.full >= least);
+    }
+}
+
+/// Whether a count stands at the ceiling, in a network with links, and whether
+/// a link is full.
+fn at_bounds_of(state: &State) -> (bool, bool) {
+    let at_ceiling = state.n() > 1 && counts_at_the_ceiling(state) > 0;
+    (at_ceiling, full_links(state) > 0)
+}
+
+/// Whichever step comes next, it is not refused with 2.
+fn never_refused_with_2(state: &State) {
+    assert!(state.is_well_formed());
+    for step in every_step(state.n()) {
+        let outcome = state.clone().step_well_formed(step);
+        let two = outcome == Err(Refusal::IllFormedState);
+        assert!(!two, "{step:?} {state:?}");
+    }
+}
+
+/// Runs from a state, by habits that change now and then. Where something stands
+/// at a bound, every step that may come next is tried.
+fn run_on(rng: &mut Rng, state: &mut State, length: usize, met: &mut Met) {
+    let mut habits = Habits::any(rng);
+    for _ in 0..length {
+        if rng.chance(1, 24) {
+            habits = Habits::any(rng);
+        }
+        let step = generate::next_step(rng, state, &habits);
+        let accepted = met.step(state, step).is_ok();
+        if accepted && at_bounds_of(state) != (false, false) {
+            never_refused_with_2(state);
+        }
+    }
+}
+
+/// A header of a shape, every other time with the least ceiling.
+fn shaped(rng: &mut Rng, k: usize) -> Header {
+    let wish = NetworkWish {
+        shape: Some(Shape::ALL[k % 6]),
+        small: rng.chance(2, 3),
+        tight: rng.chance(1, 2),
+        most: if rng.chance(1, 2) { 4 } else { 8 },
+        ..NetworkWish::default()
+    };
+    generate::network(rng, wish)
+}
+
+/// From an initial network number 2 is never met, though counts reach the
+/// ceiling and links hold L + 2 items; 4, 5, 6 and 7 are; after receipts alone
+/// every link is empty and the network rests.
 #[test]
 fn runs_from_initial_networks() {
     let seed = 22;
     println!("seed {seed}");
     let mut rng = Rng::new(seed);
-    let mut met = [0; 13];
-    let (mut resets, mut cascades, mut full) = (0, 0, 0);
+    let mut met = Met::default();
     for k in 0..1500 {
-        let wish = NetworkWish {
-            shape: Some(Shape::ALL[k % 6]),
-            small: rng.chance(2, 3),
-            most: if rng.chance(1, 2) { 4 } else { 8 },
-            ..NetworkWish::default()
-        };
-        let header = generate::network(&mut rng, wish);
+        let header = shaped(&mut rng, k);
         let mut state = State::initial(&header).unwrap();
-        let mut habits = Habits::any(&mut rng);
-        for _ in 0..300 {
-            if rng.chance(1, 24) {
-                habits = Habits::any(&mut rng);
-            }
-            let step = generate::next_step(&mut rng, &state, &habits);
-            let standby =
-                step.station() < state.n() && state.station(step.station()).mode == Mode::StandBy;
-            let outcome = state.step(step);
-            met[usize::from(number(outcome))] += 1;
-            for i in 0..state.n() {
-                assert_eq!(state.applicable_rule(i), None);
-            }
-            if let (Ok(Answer::Mode { mode, .. }), Step::Recv { .. }) = (outcome, step) {
-                resets += usize::from(mode == Mode::Normal);
-                // (b) and then (c) in one step.
-                cascades += usize::from(standby && mode == Mode::Mute);
-            }
-            full += (0..MAX_STATIONS)
-                .flat_map(|i| (0..MAX_STATIONS).map(move |j| (i, j)))
-                .filter(|&(i, j)| {
-                    let limit = usize::from(header.limit(i, j));
-                    limit > 0 && state.link(i, j).len() == limit + EXTRA_PLACES
-                })
-                .count();
-        }
+        run_on(&mut rng, &mut state, 300, &mut met);
         let mut run = reference::causality::Run::new(state);
         assert!(generate::drain(&mut rng, &mut run, 100_000).is_some());
         assert!(run.outcomes.iter().all(Result::is_ok));
         assert_eq!(run.last.rest(), Ok(true));
     }
-    println!("numbers met {met:?}, resets {resets}, cascades {cascades}, full links {full}");
-    for refusal in [0, 4, 5, 6, 7] {
-        assert!(met[refusal] > 1000, "{refusal}: {met:?}");
+    met.judge(&[0, 4, 5, 6, 7], 1000);
+    assert!(met.resets > 1000 && met.cascades > 100);
+}
+
+/// The state that so many whole resets of an initial network lead to.
+fn after_resets(header: &Header, resets: u32) -> State {
+    let mut state = State::initial(header).unwrap();
+    for station in &mut state.stations {
+        station.phase = resets;
     }
-    for refusal in [1, 2, 3, 8, 9, 10, 11, 12] {
-        assert_eq!(met[refusal], 0, "{refusal}");
+    state
+}
+
+/// A reset of a whole network, one start and then receipts alone, leaves the
+/// initial state but for the phases.
+#[test]
+fn whole_resets() {
+    let mut rng = Rng::new(24);
+    for k in 0..60 {
+        let header = shaped(&mut rng, k);
+        let mut run = reference::causality::Run::new(State::initial(&header).unwrap());
+        for resets in 1..4 {
+            let station = rng.index(header.n());
+            run.push(start(station)).unwrap();
+            assert!(generate::drain(&mut rng, &mut run, 100_000).is_some());
+            assert_eq!(run.last, after_resets(&header, resets));
+        }
     }
-    assert!(resets > 1000 && cascades > 100 && full > 100);
+}
+
+/// In the last phases 8 is met, and 2 is not.
+#[test]
+fn runs_in_the_last_phases() {
+    let seed = 25;
+    println!("seed {seed}");
+    let mut rng = Rng::new(seed);
+    let (mut met, mut last) = (Met::default(), 0);
+    for k in 0..600 {
+        let header = shaped(&mut rng, k);
+        let resets = LAST_PHASE - rng.below(4) as u32;
+        let mut state = after_resets(&header, resets);
+        run_on(&mut rng, &mut state, 200, &mut met);
+        last += u32::from(state.stations.iter().any(|s| s.phase == LAST_PHASE));
+    }
+    println!("{last} runs reached the last phase");
+    met.judge(&[0, 4, 5, 6, 7, 8], 1000);
+    assert!(last > 300);
+}
+
+/// Every state that a network reaches in its first phases, and every step from
+/// there.
+fn explore(header: &Header, last_phase: u32) -> Met {
+    let hasher = RandomState::new();
+    let (mut met, mut known) = (Met::default(), HashSet::new());
+    let mut open = vec![State::initial(header).unwrap()];
+    while let Some(state) = open.pop() {
+        let new = known.insert(hasher.hash_one(&state));
+        if !new || state.stations.iter().any(|s| s.phase > last_phase) {
+            continue;
+        }
+        for step in every_step(state.n()) {
+            let mut after = state.clone();
+            if met.step(&mut after, step).is_ok() {
+                open.push(after);
+            }
+        }
+    }
+    println!("{} states", known.len());
+    met
+}
+
+/// Small networks with the least ceiling: no step is refused with 2.
+#[test]
+fn every_state_of_small_networks() {
+    let pair = [(0, 1)];
+    for (limit, allowance, last_phase) in [(1, 0, 3), (1, 1, 3), (1, 2, 2), (2, 0, 2), (2, 1, 1)] {
+        let header = header(2, &pair, limit, allowance);
+        explore(&header, last_phase).judge(&[0, 4, 5, 6, 7], 100);
+    }
+    explore(&header(3, &[(0, 1), (1, 2)], 1, 0), 1).judge(&[0, 4, 5, 6, 7], 1000);
 }

@@ -217,7 +217,7 @@ fn receipts_alone_tell_it() {
     assert_eq!(turned, Ok(Answer::Mode { mode, phase }));
     assert_eq!(take(&mut state, recv(0, 1)), Err(Refusal::EmptyLink));
     state.station_mut(1).counts[1] = 100;
-    assert_eq!(take(&mut state, recv(1, 0)), Err(Refusal::BeyondBound));
+    assert_eq!(take(&mut state, recv(1, 0)), Err(Refusal::IllFormedState));
 }
 
 /// The header of a network of any shape, every other time with eight stations.

@@ -1,10 +1,12 @@
 //! The program: 'turnover' of document 01.
 
+use std::collections::BTreeSet;
+
 use reference::generate::{self, ScriptLine};
 use reference::header::Header;
-use reference::network::State;
+use reference::network::{State, Step, EXTRA_PLACES};
 use reference::random::Rng;
-use reference::turnover::{answer_line, parse, turnover, DEFAULT_LIMIT};
+use reference::turnover::{answer_line, lines, parse, turnover, Line, DEFAULT_LIMIT};
 
 /// The output as text, with the input given as lines.
 fn run(lines: &[&str]) -> String {
@@ -469,6 +471,72 @@ fn expected(lines: &[ScriptLine]) -> Vec<u8> {
     output.into()
 }
 
+/// The header and the steps of a script of well-made lines.
+fn told(input: &[u8]) -> (Header, Vec<Step>) {
+    let (mut header, mut steps) = (Header::new(0, 0), Vec::new());
+    for line in lines(input) {
+        match parse(line).expect("a well-made line") {
+            Line::Net { stations, ceiling } => header = Header::new(stations, ceiling),
+            Line::Allow { station, allowance } => header.allowances[station] = allowance,
+            Line::Link {
+                station,
+                peer,
+                limit,
+            } => {
+                header.limits[station][peer] = limit;
+                header.limits[peer][station] = limit;
+            }
+            Line::Step(step) => steps.push(step),
+        }
+    }
+    (header, steps)
+}
+
+/// The links that hold L + 2 items.
+fn full_links(state: &State) -> Vec<(usize, usize)> {
+    let n = state.n();
+    let links = (0..n).flat_map(|i| state.header.neighbours(i).map(move |j| (i, j)));
+    let full = |&(i, j): &(usize, usize)| {
+        state.link(i, j).len() == usize::from(state.header.limit(i, j)) + EXTRA_PLACES
+    };
+    links.filter(full).collect()
+}
+
+/// Whether every station has used up its allowance and its limits in a phase.
+fn all_used_up(state: &State, phase: u32) -> bool {
+    let header = &state.header;
+    let mut stations = state.stations.iter().enumerate();
+    stations.all(|(i, station)| {
+        let used = station.own_entries == header.allowances[i] && station.sent == header.limits[i];
+        used && station.phase == phase
+    })
+}
+
+/// In the example with the least ceiling a phase uses up everything, each own
+/// count reaches the ceiling, each link holds L + 2 items, and resets go
+/// through; refused steps have 4 to 8.
+#[test]
+fn tight_example() {
+    let input = include_bytes!("../../../examples/tight.in");
+    let (header, steps) = told(input);
+    let mut lower = header;
+    lower.ceiling -= 1;
+    assert_eq!(State::initial(&lower).unwrap_err().number(), 3);
+    let mut state = State::initial(&header).unwrap();
+    let (mut filled, mut at_ceiling, mut used_up) = (BTreeSet::new(), BTreeSet::new(), false);
+    for step in steps {
+        let outcome = state.step(step);
+        assert!(outcome.map_or_else(|refusal| (4..=8).contains(&refusal.number()), |_| true));
+        filled.extend(full_links(&state));
+        at_ceiling.extend((0..3).filter(|&i| state.station(i).counts[i] == header.ceiling));
+        used_up |= all_used_up(&state, 0);
+    }
+    assert!(filled.into_iter().eq([(0, 1), (1, 0), (1, 2), (2, 1)]));
+    assert!(at_ceiling.into_iter().eq(0..3) && used_up);
+    assert!(state.rest() == Ok(true) && state.station(0).phase == 2);
+    check_refusals(&turnover(input));
+}
+
 #[test]
 fn random_ill_lines() {
     let seed = 40;
@@ -477,6 +545,19 @@ fn random_ill_lines() {
     for _ in 0..100_000 {
         let line = generate::ill_line(&mut rng);
         assert_eq!(parse(&line), None, "{:?}", String::from_utf8_lossy(&line));
+    }
+}
+
+/// A refused step has a number from 4 to 8, and a refused setup 1 or 3.
+fn check_refusals(output: &[u8]) {
+    for line in String::from_utf8_lossy(output).lines() {
+        let words: Vec<&str> = line.split(' ').collect();
+        let fits = match words[..] {
+            ["no", number] => ["1", "3"].contains(&number),
+            [_, "no", number] => ["4", "5", "6", "7", "8"].contains(&number),
+            _ => !words.contains(&"no"),
+        };
+        assert!(fits, "{line}");
     }
 }
 
@@ -502,6 +583,7 @@ fn random_scripts() {
             "{}",
             String::from_utf8_lossy(&text)
         );
+        check_refusals(&output);
         for line in output.split(|&b| b == b'\n') {
             bad += usize::from(line == b"bad");
             refused[0] += usize::from(line == b"no 1");
@@ -524,6 +606,7 @@ fn mutated_scripts() {
     for _ in 0..4000 {
         let text = generate::mutated_script(&mut rng, 40);
         let output = String::from_utf8(turnover(&text)).unwrap();
+        check_refusals(output.as_bytes());
         let lines: Vec<&str> = output.lines().collect();
         let mut number = 0;
         for (k, line) in lines.iter().enumerate() {

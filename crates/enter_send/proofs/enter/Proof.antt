@@ -46,6 +46,10 @@ module _ (c : tie.After-load-station) where
   x : stationAt (stateAt (a h)) (i h) ≡ stationView (c .load-station .result)
   x = station-is (known h) _ (at o .i-small) (c .load-station .ensures)
 
+  -- the count that the test looks at
+  own : getD (stationAt (stateAt (a h)) (i h) .time) (i h) 0 ≡ getD (c .load-station .result .counts) (i h) 0
+  own = ap (λ (y : NetworkStation vector). getD (y .time) (i h) 0) x
+
   allowed : allowanceAt (configAt (a h)) (stationAt (stateAt (a h)) (i h) .phase) (i h) ≡ getD (h .header-of .result .allowances) (i h) 0
   allowed = allowance-is (known h) (h .header-of .ensures) _ _
 
@@ -66,7 +70,7 @@ returns-3 c =
     let e = c .before .before .before .before in
     let l = e .before .before .before in
     let k = known (h l) in
-    refuses k (enter-full _ _ (k .formed) _ _ (at (o l) .station) (rw (allowed l, x l) (e .if2 .left)) (rw (t-is k (h l .header-of .ensures), x l) (c .before .if3 .taken))) (c .refused3 .ensures)
+    refuses k (enter-full _ _ (k .formed) _ _ (at (o l) .station) (rw (allowed l, x l) (e .if2 .left)) (omega (arith, c .before .if3 .taken, t-is k (h l .header-of .ensures), own l))) (c .refused3 .ensures)
 
 entered-requires : tie.Need-entered-requires
 entered-requires c κs =
@@ -86,7 +90,7 @@ returns-4 c =
     let s = stateAt (a (h l)) in
     let z : stationView (v .entered .result) ≡ entered n (stationAt s n) = v .entered .ensures ∙ ap (entered n) (sym (x l)) in
     does k (doEnter n r s)
-    (enter-done _ _ (k .formed) _ _ (at (o l) .station) (rw (allowed l, x l) (e .if2 .left)) (rw (t-is k (h l .header-of .ensures), x l) (v .before .if3 .left)))
+    (enter-done _ _ (k .formed) _ _ (at (o l) .station) (rw (allowed l, x l) (e .if2 .left)) (omega (arith, v .before .if3 .left, t-is k (h l .header-of .ensures), own l)))
     (c .entry .ensures ∙ ap (λ (y : NetworkStation vector). steppedOf (entry (entryOf 1 n 255 r y 0))) z)
     (c .before .before .before .put-station .ensures (configAt (a (h l))) s (k .is) ∙ ap (λ (y : NetworkStation vector). image (configAt (a (h l))) (setStation s n y)) z)
 

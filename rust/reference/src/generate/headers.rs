@@ -83,6 +83,9 @@ pub struct NetworkWish {
     pub symmetric: bool,
     /// Whether limits and allowances are to be small, so that they are used up.
     pub small: bool,
+    /// Whether the ceiling is to be the least that the sum rule allows, so that
+    /// counts reach it.
+    pub tight: bool,
     /// The fewest stations.
     pub fewest: usize,
     /// The most stations.
@@ -95,6 +98,7 @@ impl Default for NetworkWish {
             shape: None,
             symmetric: false,
             small: false,
+            tight: false,
             fewest: 1,
             most: MAX_STATIONS,
         }
@@ -151,6 +155,7 @@ pub fn network(rng: &mut Rng, wish: NetworkWish) -> Header {
     let least = (0..n).map(|i| header.load(i)).max().unwrap_or(0).max(1);
     header.ceiling = match rng.below(4) {
         0 | 1 => least as u16,
+        _ if wish.tight => least as u16,
         2 => rng.range(u64::from(least), u64::from(least + 5).min(65_535)) as u16,
         _ => rng.range(u64::from(least), 65_535) as u16,
     };

@@ -108,6 +108,23 @@ pub fn wild_step(rng: &mut Rng) -> Step {
     }
 }
 
+/// Every step of the stations and peers from 0 to n, one more than there are;
+/// the register numbers are 0.
+pub fn every_step(n: usize) -> Vec<Step> {
+    let register = 0;
+    let pairs = (0..=n).flat_map(|station| (0..=n).map(move |peer| (station, peer)));
+    let on_links = pairs.flat_map(|(station, peer)| {
+        let send = Step::Send {
+            station,
+            peer,
+            register,
+        };
+        [send, Step::Recv { station, peer }]
+    });
+    let alone = |station| [Step::Enter { station, register }, Step::Start { station }];
+    on_links.chain((0..=n).flat_map(alone)).collect()
+}
+
 /// A next step for a state, by habits.
 pub fn next_step(rng: &mut Rng, state: &State, habits: &Habits) -> Step {
     let Habits {
