@@ -1,3 +1,4 @@
 pub mod Ceilings
 pub mod Listing
 pub mod Marked
+pub mod Refusals
