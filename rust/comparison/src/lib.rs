@@ -101,20 +101,6 @@ pub fn stepped(outcome: &Outcome) -> u64 {
     }
 }
 
-/// Looks at an output of `turnover`: a refused step has a number from 4 to 8,
-/// and a refused setup 1 or 3.
-pub fn check_refusals(output: &[u8]) {
-    for line in String::from_utf8_lossy(output).lines() {
-        let words: Vec<&str> = line.split(' ').collect();
-        let fits = match words[..] {
-            ["no", number] => ["1", "3"].contains(&number),
-            [_, "no", number] => ["4", "5", "6", "7", "8"].contains(&number),
-            _ => !words.contains(&"no"),
-        };
-        assert!(fits, "{line}");
-    }
-}
-
 /// A step whose stations fit the library's 32 bits.
 pub fn in_32_bits(step: Step) -> Step {
     let fit = |number: usize| number.min(u32::MAX as usize);

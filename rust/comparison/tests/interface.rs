@@ -72,50 +72,39 @@ fn verdict_of(verdict: reference::order::Verdict) -> Verdict {
     }
 }
 
+/// A step of a network of any type that has the four.
+macro_rules! taken {
+    ($network:expr, $step:expr) => {
+        match $step {
+            Step::Enter { station, register } => {
+                $network.enter(station as u32, register).map(Taken::Entry)
+            }
+            Step::Send {
+                station,
+                peer,
+                register,
+            } => $network
+                .send(station as u32, peer as u32, register)
+                .map(Taken::Entry),
+            Step::Recv { station, peer } => $network
+                .recv(station as u32, peer as u32)
+                .map(Taken::Outcome),
+            Step::Start { station } => {
+                let after = $network.start(station as u32);
+                after.map(Outcome::Control).map(Taken::Outcome)
+            }
+        }
+    };
+}
+
 /// A step, whichever bytes the network stands in.
 fn take(mut network: NetworkMut, step: Step) -> Result<Taken, Refusal> {
-    match step {
-        Step::Enter { station, register } => {
-            network.enter(station as u32, register).map(Taken::Entry)
-        }
-        Step::Send {
-            station,
-            peer,
-            register,
-        } => network
-            .send(station as u32, peer as u32, register)
-            .map(Taken::Entry),
-        Step::Recv { station, peer } => network
-            .recv(station as u32, peer as u32)
-            .map(Taken::Outcome),
-        Step::Start { station } => {
-            let after = network.start(station as u32);
-            after.map(Outcome::Control).map(Taken::Outcome)
-        }
-    }
+    taken!(network, step)
 }
 
 /// A step of a network that steps have reached from an initial one.
 fn take_reached(reached: &mut Reached, step: Step) -> Result<Taken, StepRefusal> {
-    match step {
-        Step::Enter { station, register } => {
-            reached.enter(station as u32, register).map(Taken::Entry)
-        }
-        Step::Send {
-            station,
-            peer,
-            register,
-        } => reached
-            .send(station as u32, peer as u32, register)
-            .map(Taken::Entry),
-        Step::Recv { station, peer } => reached
-            .recv(station as u32, peer as u32)
-            .map(Taken::Outcome),
-        Step::Start { station } => {
-            let after = reached.start(station as u32);
-            after.map(Outcome::Control).map(Taken::Outcome)
-        }
-    }
+    taken!(reached, step)
 }
 
 /// The accepted records of a run of both.

@@ -282,7 +282,7 @@ fn news_by_hand() {
 /// a link is full.
 fn at_bounds_of(state: &State) -> [bool; 2] {
     let at_ceiling = state.n() > 1 && counts_at_the_ceiling(state) > 0;
-    [at_ceiling, full_links(state) > 0]
+    [at_ceiling, !full_links(state).is_empty()]
 }
 
 /// Whichever step comes next, it is accepted or refused with 4 to 8.

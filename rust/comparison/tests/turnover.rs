@@ -8,8 +8,8 @@ use std::path::{Path, PathBuf};
 use std::process::{Command, Stdio};
 use std::thread;
 
-use comparison::{cases, check_refusals};
-use reference::at_bounds::full_links;
+use comparison::cases;
+use reference::at_bounds::{check_refusals, full_links};
 use reference::generate::{mutated_script, network, pairs_of, run_of, script, script_text};
 use reference::generate::{step_text, NetworkWish, Shape};
 use reference::header::Header;
@@ -112,7 +112,7 @@ fn entries_at(output: &[u8], t: u16) -> usize {
 /// How many states of a list of steps have a full link.
 fn states_with_full_links(header: &Header, steps: &[Step]) -> usize {
     let mut state = State::initial(header).expect("a network");
-    let full = |&&step: &&Step| state.step(step).is_ok() && full_links(&state) > 0;
+    let full = |&&step: &&Step| state.step(step).is_ok() && !full_links(&state).is_empty();
     steps.iter().filter(full).count()
 }
 

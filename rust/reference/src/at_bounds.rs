@@ -55,14 +55,28 @@ pub fn counts_at_the_ceiling(state: &State) -> usize {
     at.count()
 }
 
-/// How many links hold as many items as they have places.
-pub fn full_links(state: &State) -> usize {
+/// The links that hold as many items as they have places.
+pub fn full_links(state: &State) -> Vec<(usize, usize)> {
     let links = (0..MAX_STATIONS * MAX_STATIONS).map(|k| (k / MAX_STATIONS, k % MAX_STATIONS));
-    let full = links.filter(|&(i, j)| {
+    let full = |&(i, j): &(usize, usize)| {
         let limit = usize::from(state.header.limits[i][j]);
         limit > 0 && state.links[i][j].len() == limit + EXTRA_PLACES
-    });
-    full.count()
+    };
+    links.filter(full).collect()
+}
+
+/// Looks at an output of `turnover`: a refused step has a number from 4 to 8,
+/// and a refused setup 1 or 3.
+pub fn check_refusals(output: &[u8]) {
+    for line in String::from_utf8_lossy(output).lines() {
+        let words: Vec<&str> = line.split(' ').collect();
+        let fits = match words[..] {
+            ["no", number] => ["1", "3"].contains(&number),
+            [_, "no", number] => ["4", "5", "6", "7", "8"].contains(&number),
+            _ => !words.contains(&"no"),
+        };
+        assert!(fits, "{line}");
+    }
 }
 
 /// A step at a bound, or near it.

@@ -768,7 +768,7 @@ impl Met {
 /// a link is full.
 fn at_bounds_of(state: &State) -> (bool, bool) {
     let at_ceiling = state.n() > 1 && counts_at_the_ceiling(state) > 0;
-    (at_ceiling, full_links(state) > 0)
+    (at_ceiling, !full_links(state).is_empty())
 }
 
 /// Whichever step comes next, it is not refused with 2.

@@ -2,9 +2,10 @@
 
 use std::collections::BTreeSet;
 
+use reference::at_bounds::{check_refusals, full_links};
 use reference::generate::{self, ScriptLine};
 use reference::header::Header;
-use reference::network::{State, Step, EXTRA_PLACES};
+use reference::network::{State, Step};
 use reference::random::Rng;
 use reference::turnover::{answer_line, lines, parse, turnover, Line, DEFAULT_LIMIT};
 
@@ -492,16 +493,6 @@ fn told(input: &[u8]) -> (Header, Vec<Step>) {
     (header, steps)
 }
 
-/// The links that hold L + 2 items.
-fn full_links(state: &State) -> Vec<(usize, usize)> {
-    let n = state.n();
-    let links = (0..n).flat_map(|i| state.header.neighbours(i).map(move |j| (i, j)));
-    let full = |&(i, j): &(usize, usize)| {
-        state.link(i, j).len() == usize::from(state.header.limit(i, j)) + EXTRA_PLACES
-    };
-    links.filter(full).collect()
-}
-
 /// Whether every station has used up its allowance and its limits in a phase.
 fn all_used_up(state: &State, phase: u32) -> bool {
     let header = &state.header;
@@ -545,19 +536,6 @@ fn random_ill_lines() {
     for _ in 0..100_000 {
         let line = generate::ill_line(&mut rng);
         assert_eq!(parse(&line), None, "{:?}", String::from_utf8_lossy(&line));
-    }
-}
-
-/// A refused step has a number from 4 to 8, and a refused setup 1 or 3.
-fn check_refusals(output: &[u8]) {
-    for line in String::from_utf8_lossy(output).lines() {
-        let words: Vec<&str> = line.split(' ').collect();
-        let fits = match words[..] {
-            ["no", number] => ["1", "3"].contains(&number),
-            [_, "no", number] => ["4", "5", "6", "7", "8"].contains(&number),
-            _ => !words.contains(&"no"),
-        };
-        assert!(fits, "{line}");
     }
 }
 
