@@ -12,6 +12,7 @@ unfolding sum
 sum-below zero f g h = omega arith
 sum-below (suc n) f g h = let k = sum-below n f g (λ j l. h j (omega arith)) in let l = h n (omega arith) in omega arith
 
+-- the same numbers have the same sum, and zeros have 0
 pub sum-same : (n : ℕ) (f g : ℕ → ℕ) → ((j : ℕ) → j < n → f j ≡ g j) → sum n f ≡ sum n g
 unfolding sum
 sum-same zero f g h = refl

@@ -29,11 +29,12 @@ use Rattle.reset.proofs.Keeps.{every-neighbour-at, puts-begin, puts-ren
 use Rattle.reset.proofs.Books.{Loads, Carried, book-control, book-message, Counted, counts-within, Book, Books, change-puts, change-takes, changed}
 use Rattle.reset.proofs.Cases.{by-test, by-dec}
 
+-- a station is one of the eight
+low : (c : Config) → Rules c → (i : ℕ) → i < c .n → i < 8
+low c u i l = omega (arith, u .small)
+
 -- ---- begin and the reset rules
 module _ (c : Config) (u : Rules c) (i : ℕ) (il : i < c .n) (s : State vector) (v : Invariant c s) (w : Books c s) where
-  low : i < 8
-  low = omega (arith, u .small)
-
   -- in a phase that has a next one
   pub begin-books : stationAt s i .mode ≡ normal → stationAt s i .phase < lastPhase → Books c (beginReset c i s)
   unfolding beginReset
@@ -41,7 +42,7 @@ module _ (c : Config) (u : Rules c) (i : ℕ) (il : i < c .n) (s : State vector)
       let k = w .books i il in
       let x = begun (stationAt s i) in
       changed c u i s _ x _ _ (change-puts c u i s _ _ (puts-begin c u i s h v) x (rw (station-put-all, station-set))) w
-      (omega arith) (w .counts i low) (k .got) (k .station) (k .links)
+      (omega arith) (w .counts i (low c u i il)) (k .got) (k .station) (k .links)
       (λ b h g r. book-control _ _ _ _ _ _ (linkAt s i b) (resetReq ∷ []) refl tt r)
 
   -- rule a: no message is left on the links in
@@ -50,7 +51,7 @@ module _ (c : Config) (u : Rules c) (i : ℕ) (il : i < c .n) (s : State vector)
   renew-books h q =
       let k = w .books i il in
       let x = renewed (stationAt s i) in
-      let a : stationAt s i .phase + 1 ≤ lastPhase = rw h at (w .targets i low) in
+      let a : stationAt s i .phase + 1 ≤ lastPhase = rw h at (w .targets i (low c u i il)) in
       changed c u i s _ x _ _ (change-puts c u i s _ _ (puts-renew c u i s h q) x (rw (station-put-all, station-set))) w
       (omega arith) (λ d dl. rw zeros-at (omega arith)) (λ j. 0)
       (record {
@@ -76,9 +77,9 @@ module _ (c : Config) (u : Rules c) (i : ℕ) (il : i < c .n) (s : State vector)
   wake-books h q =
       let k = w .books i il in
       let x = woken (stationAt s i) in
-      let a : stationAt s i .phase + muted (stationAt s i .mode) ≤ lastPhase = w .targets i low in
+      let a : stationAt s i .phase + muted (stationAt s i .mode) ≤ lastPhase = w .targets i (low c u i il) in
       changed c u i s _ x _ _ (change-puts c u i s _ _ (puts-wake c u i s h q) x (rw station-set)) w
-      (omega arith) (w .counts i low) (k .got) (k .station) (k .links)
+      (omega arith) (w .counts i (low c u i il)) (k .got) (k .station) (k .links)
       (λ b h g r. book-control _ _ _ _ _ _ (linkAt s i b) [] refl tt r)
 
   -- rule c: the neighbour whose req is seen aims at the next phase, which is none past the last
@@ -118,8 +119,8 @@ module _ (c : Config) (u : Rules c) (r : networkRules c ≡ true) (i : ℕ) (il 
       let x = entered i (stationAt s i) in
       let b : Counted c i x (k .got) = record { own-within = l; sent-within = o .sent-within; got-within = o .got-within; own-count = rw put-same (omega (arith, o .own-count)) } in
       changed c u i s _ x _ _ (change-puts c u i s _ _ (puts-enter c u s v i) x (rw station-set)) w
-      (w .targets i (low c u i il s v w))
-      (counts-within c r i (low c u i il s v w) x (k .got) b (λ d dl n. rw (put-other 0 (stationAt s i .time) i d _ n) (w .counts i (low c u i il s v w) d dl)))
+      (w .targets i (low c u i il))
+      (counts-within c r i (low c u i il) x (k .got) b (λ d dl n. rw (put-other 0 (stationAt s i .time) i d _ n) (w .counts i (low c u i il) d dl)))
       (k .got) b (k .links)
       (λ b h g z. book-control _ _ _ _ _ _ (linkAt s i b) [] refl tt z)
 
@@ -135,9 +136,9 @@ module _ (c : Config) (u : Rules c) (r : networkRules c ≡ true) (i : ℕ) (il 
         (rw put-same (omega arith)) (λ m n. rw (put-other 0 (stationAt s i .sent) j m _ n)) in
         let b : Counted c i x (k .got)
         = record { own-within = o .own-within; sent-within = sent-in l; got-within = o .got-within; own-count = rw put-same (omega (arith, o .own-count, e)) } in
-        let t = counts-within c r i (low c u i il s v w) x (k .got) b (λ d dl n. rw (put-other 0 (stationAt s i .time) i d _ n) (w .counts i (low c u i il s v w) d dl)) in
+        let t = counts-within c r i (low c u i il) x (k .got) b (λ d dl n. rw (put-other 0 (stationAt s i .time) i d _ n) (w .counts i (low c u i il) d dl)) in
         changed c u i s _ x _ _ (change-puts c u i s _ _ (puts-send c u s v i j g ij may) x (rw (station-set-link, station-set))) w
-        (w .targets i (low c u i il s v w)) t (k .got) b (k .links)
+        (w .targets i (low c u i il)) t (k .got) b (k .links)
         (λ b h f z. out g may l t b (eqb j b) refl f z)
       where
         sent-in : sentTo (stationAt s i) j < limit (c .limits) i j → (m : ℕ) → sentTo (sending i j (stationAt s i)) m ≤ limit (c .limits) i m
@@ -176,7 +177,7 @@ module _ (c : Config) (u : Rules c) (r : networkRules c ≡ true) (i : ℕ) (il 
     mark-books x y q l m n z ph md ow se ti =
         let k = w .books i il in
         changed c u i s _ x _ _ (change-takes c u i j ij s _ y q l m x (rw (station-set-link, station-set))) w
-        (rw (ph, md) (w .targets i (low c u i il s v w))) (rw ti (w .counts i (low c u i il s v w))) (k .got) (rw (ow, se, ti) (k .station))
+        (rw (ph, md) (w .targets i (low c u i il))) (rw ti (w .counts i (low c u i il))) (k .got) (rw (ow, se, ti) (k .station))
         (λ a h. rw ph (same a (eqb j a) (k .got a) (taken-in 0 y q (m .held) (omega (arith, n)) z k a (eqb j a) refl h)))
         (λ b h g t. rw (ph, se) t)
       where
@@ -199,9 +200,9 @@ module _ (c : Config) (u : Rules c) (r : networkRules c ≡ true) (i : ℕ) (il 
         let b : Counted c i x f = record { own-within = o .own-within; sent-within = o .sent-within; got-within = got-in k (ins j ij .most); own-count = rw put-same (omega (arith, o .own-count, e)) } in
         let lw : AtMost (c .t) m = (rw held at (k .links j ij .loads)) .0 in
         changed c u i s _ x _ _ (change-takes c u i j ij s _ _ q _ (takes-message c u s v i j ij q m g held) x (rw (station-set-link, station-set))) w
-        (w .targets i (low c u i il s v w))
-        (counts-within c r i (low c u i il s v w) x f b (λ d dl n. rw (put-other 0 (merged (stationAt s i .time) m) i d _ n)
-        (omega (arith, merged-most (stationAt s i .time) m d, w .counts i (low c u i il s v w) d dl, lw d dl))))
+        (w .targets i (low c u i il))
+        (counts-within c r i (low c u i il) x f b (λ d dl n. rw (put-other 0 (merged (stationAt s i .time) m) i d _ n)
+        (omega (arith, merged-most (stationAt s i .time) m d, w .counts i (low c u i il) d dl, lw d dl))))
         f b ins (λ b h g t. t)
       where
         got-in : (k : Book c s i) → cond (eqb j j) (1 + k .got j) (k .got j) + messages (cond (eqb j j) q (linkAt s j i)) ≤ limit (c .limits) j i

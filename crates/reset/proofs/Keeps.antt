@@ -122,12 +122,12 @@ module _ {K : Clock} (c : Config) (u : Rules c) (s : State K) (v : Invariant c s
   enter-keeps = puts-quiet c u i s _ _ v puts-enter (λ b. refl)
 
 -- ---- send
-pub may-send-unmuted : (m : Mode) (d : Bool) → maySend m d ≡ true → muted m ≡ 0
+may-send-unmuted : (m : Mode) (d : Bool) → maySend m d ≡ true → muted m ≡ 0
 may-send-unmuted normal d h = refl
 may-send-unmuted mute d h = clash (cc)
 may-send-unmuted standBy d h = refl
 
-pub may-send-seen : (m : Mode) (d : Bool) → maySend m d ≡ true → (m ≡ normal → d ≡ true) → d ≡ true
+may-send-seen : (m : Mode) (d : Bool) → maySend m d ≡ true → (m ≡ normal → d ≡ true) → d ≡ true
 may-send-seen normal d h k = k refl
 may-send-seen mute d h k = clash (cc)
 may-send-seen standBy d h k = h
@@ -154,7 +154,7 @@ module _ {K : Clock} (c : Config) (u : Rules c) (s : State K) (v : Invariant c s
       rw (← eqb-true j b e, may-send-unmuted _ _ may) (omega arith)
   tail-send b false e = (refl, refl)
 
-  -- station j is in the phase of i: it has made its reset, and is not past the next
+  -- station j, whose done is seen, is in the phase of i: it can be no further, for i aims at no later one
   pub one-phase : stationAt s j .phase ≡ stationAt s i .phase
   one-phase =
       let k = rw (may-send-seen _ _ may (v .seen i j ij)) at (flow-dones _ _ _ (linkAt s j i) _ _ (v .flow j i (u .both-ways i j ij))) in

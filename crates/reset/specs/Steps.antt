@@ -231,7 +231,7 @@ isNormal normal = true
 isNormal mute = false
 isNormal standBy = false
 
--- and in a phase that has a next one
+-- and not in the last phase
 abbrev pub inLastPhase : {K : Clock} → Station K → Bool
 inLastPhase x = leb lastPhase (x .phase)
 
