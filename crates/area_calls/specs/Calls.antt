@@ -1,4 +1,5 @@
--- What the calls on a state area answer and leave (document 01, "State area and host"): setup, the four steps, rest. Assumes nothing.
+-- What the calls on a state area answer and leave (document 01, "State area and host"): setup, the four steps, rest, and how many receipts are left until
+-- it (document 02, CR 12). Assumes nothing.
 use Prim.Native.Nat.{ℕ}
 use mathlib.Core.List.{List}
 use mathlib.Core.Bool.{cond}
@@ -10,6 +11,7 @@ use Rattle.reset.specs.Config.{Config, networkRules}
 use Rattle.reset.specs.Clock.{vector}
 use Rattle.reset.specs.Steps.{Step, Answer, refused, Outcome, step}
 use Rattle.reset.specs.Network.{initial, quiescent}
+use Rattle.reset.specs.Receipts.{receiptsToRest}
 use Rattle.rules.specs.Setup.{blockConfig}
 use Rattle.area.specs.Layout.{image, configAt, stateAt, test}
 
@@ -43,3 +45,10 @@ pub data RestAnswer : Type 0 where
 
 unfoldable pub restOn : List ℕ → RestAnswer
 restOn a = cond (test a) (cond (quiescent (configAt a) (stateAt a)) RestAnswer.yes RestAnswer.no) (restRefused 2)
+
+-- receipts to rest: how many are left, or a refusal
+pub data ReceiptsAnswer : Type 0 where
+  receiptsLeft receiptsRefused : ℕ → ReceiptsAnswer
+
+unfoldable pub receiptsOn : List ℕ → ReceiptsAnswer
+receiptsOn a = cond (test a) (receiptsLeft (receiptsToRest (configAt a) (stateAt a))) (receiptsRefused 2)

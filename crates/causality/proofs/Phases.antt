@@ -9,6 +9,7 @@ use lib.ListN.{drop, length}
 use lib.Seq.{drop-nil}
 use borrow.Author.Tests.{eqb-true, eqb-false, ne-eqb}
 use Rattle.reset.specs.Config.{Config, neighbours}
+use Rattle.reset.specs.Receipts.{reqsTaken}
 use Rattle.reset.proofs.ConfigLaws.{Rules}
 use Rattle.reset.specs.Clock.{Clock, vector}
 use Rattle.reset.specs.State.{Item, message, resetReq, resetDone, Station, State, stationAt, linkAt}
@@ -16,7 +17,7 @@ use Rattle.reset.specs.Steps.{Step, stationOfStep, Answer, refused, entry, mode
 use Rattle.reset.specs.Network.{initial, log, run}
 use Rattle.reset.specs.Bears.{Taker}
 use Rattle.reset.proofs.StepLaws.{answers-taker}
-use Rattle.reset.proofs.Changes.{reqsTaken, Tagged, tags, Summary}
+use Rattle.reset.proofs.Changes.{Tagged, tags, Summary}
 use Rattle.reset.proofs.Invariant.{Invariant}
 use Rattle.reset.proofs.Summary.{step-keeps, summary}
 use Rattle.reset.proofs.Initial.{initial-station, initial-invariant}

@@ -1,5 +1,5 @@
--- Tests, counts and sums over every index below a bound, and tests of zero bytes. Assumes nothing.
-use Prim.Native.Nat.{ℕ, zero, suc, _+_}
+-- Tests, counts, sums and the greatest number over every index below a bound, and tests of zero bytes. Assumes nothing.
+use Prim.Native.Nat.{ℕ, zero, suc, _+_, max}
 use mathlib.Core.List.{List, [], _∷_}
 use mathlib.Core.Bool.{Bool, true, false, cond, _&&_, _||_}
 use lib.Dec.{eqb}
@@ -24,6 +24,11 @@ countBelow (suc n) p = cond (p n) (suc (countBelow n p)) (countBelow n p)
 unfoldable pub sum : ℕ → (ℕ → ℕ) → ℕ
 sum zero f = 0
 sum (suc n) f = sum n f + f n
+
+-- the greatest of f 0, f 1, .., f (n - 1); 0 where there is none
+unfoldable pub greatest : ℕ → (ℕ → ℕ) → ℕ
+greatest zero f = 0
+greatest (suc n) f = max (greatest n f) (f n)
 
 -- the sum of a list
 unfoldable pub total : List ℕ → ℕ

@@ -16,13 +16,14 @@ use Rattle.codec.proofs.SumLaws.{sum-below}
 use Rattle.clock.specs.Range.{lastPhase}
 use Rattle.reset.specs.Reach.{limit}
 use Rattle.reset.specs.Config.{Config, neighbours, places, between, networkRules}
+use Rattle.reset.specs.Receipts.{target, messages}
 use Rattle.reset.proofs.ConfigLaws.{Rules, not-itself, within-sum}
 use Rattle.reset.specs.Clock.{vector}
 use Rattle.reset.specs.State.{Item, message, resetReq, resetDone, Station, State, stationAt, linkAt, sentTo}
 use Rattle.reset.specs.Steps.{inBounds}
-use Rattle.reset.proofs.Changes.{target, Tagged}
+use Rattle.reset.proofs.Changes.{Tagged}
 use Rattle.reset.proofs.ClockRange.{AtMost}
-use Rattle.reset.proofs.Flow.{messages, flow-length, messages-append}
+use Rattle.reset.proofs.Flow.{flow-length, messages-append}
 use Rattle.reset.proofs.Invariant.{Invariant, target-near, phase-near, Puts, TakesOff}
 use Rattle.reset.proofs.Formed.{in-bounds}
 use Rattle.reset.proofs.Cases.{by-test, by-dec, clash}

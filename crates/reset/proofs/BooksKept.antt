@@ -15,15 +15,16 @@ use Rattle.clock.specs.Range.{lastPhase}
 use Rattle.clock.proofs.MergeLaws.{merged-most}
 use Rattle.reset.specs.Reach.{limit}
 use Rattle.reset.specs.Config.{Config, neighbours, limitAt, allowanceAt, networkRules}
+use Rattle.reset.specs.Receipts.{muted, messages}
 use Rattle.reset.proofs.ConfigLaws.{Rules, neighbour-small}
 use Rattle.reset.specs.Clock.{vector}
 use Rattle.reset.specs.State.{normal, mute, standBy, Item, message, resetReq, resetDone, Station, State, stationAt, linkAt, reqSeen, doneSeen, sentTo, setStation, setLink}
 use Rattle.reset.specs.Steps.{everyNeighbour, someNeighbour, begun, renewed, woken, beginReset, renew, wake, Rule, ruleA, ruleB, ruleC, noRule, ruleOf, apply, turnOnce, turn, entered, sending, maySend, doSend, receiving, doReceive}
 use Rattle.reset.proofs.Views.{zeros-at, station-set, station-set-link, station-put-all}
 use Rattle.reset.proofs.TurnLaws.{some-holds, Tested, rule-tested}
-use Rattle.reset.proofs.Changes.{muted, Tagged}
+use Rattle.reset.proofs.Changes.{Tagged}
 use Rattle.reset.proofs.ClockRange.{AtMost}
-use Rattle.reset.proofs.Flow.{messages, flow-reqs, flow-past}
+use Rattle.reset.proofs.Flow.{flow-reqs, flow-past}
 use Rattle.reset.proofs.Invariant.{Invariant, TakesOff}
 use Rattle.reset.proofs.Keeps.{every-neighbour-at, puts-begin, puts-renew, puts-wake, turn-once-keeps, puts-enter, one-phase, puts-send, takes-message}
 use Rattle.reset.proofs.Books.{Loads, Carried, book-control, book-message, Counted, counts-within, Book, Books, change-puts, change-takes, changed}

@@ -4,33 +4,13 @@ use Prim.Native.Nat.{ℕ, suc, _<_, _+_}
 use mathlib.Core.Path.{_≡_}
 use mathlib.Core.Logic.{_≢_}
 use mathlib.Core.List.{List, [], _∷_, _++_}
-use mathlib.Core.Bool.{true, cond, _&&_, Bool, false}
+use mathlib.Core.Bool.{true, cond, _&&_}
 use lib.Dec.{eqb}
 use Rattle.reset.specs.Config.{Config, neighbours}
 use Rattle.reset.specs.Clock.{Clock}
-use Rattle.reset.specs.State.{Mode, Item, message, resetReq, resetDone, Station, State, stationAt, linkAt, normal, mute, standBy, reqSeen, doneSeen}
+use Rattle.reset.specs.State.{Mode, Item, message, resetReq, resetDone, Station, State, stationAt, linkAt}
+use Rattle.reset.specs.Receipts.{reqsTaken}
 use Rattle.reset.specs.Steps.{Step, enter, send, recv, start, Entry, Answer, refused, entry, modeAfter}
-
--- ---- how far a station is with the resets: what the number of control items under way is measured by
-abbrev pub muted : Mode → ℕ
-muted normal = 0
-muted mute = 1
-muted standBy = 0
-
-abbrev pub bit : Bool → ℕ
-bit true = 1
-bit false = 0
-
--- the target phase: the phase that a station is in, or on the way to while mute
-abbrev pub target : {K : Clock} → Station K → ℕ
-target x = x .phase + muted (x .mode)
-
--- how many reset_req, and how many reset_done plus one, the station has taken from its neighbour j
-abbrev pub reqsTaken : {K : Clock} → Station K → ℕ → ℕ
-reqsTaken x j = x .phase + bit (reqSeen x j)
-
-abbrev pub donesTaken : {K : Clock} → Station K → ℕ → ℕ
-donesTaken x j = target x + bit (doneSeen x j)
 
 -- ---- messages under way
 -- A message with a phase.

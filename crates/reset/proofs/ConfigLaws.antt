@@ -133,12 +133,18 @@ module _ (c : Config) (u : Rules c) (i j : ℕ) (h : neighbours c i j ≡ true) 
   pub not-itself : j ≢ i
   not-itself e = u .loopless i (rw e at h)
 
--- the sum rule
-pub within-sum : (c : Config) → networkRules c ≡ true → (i : ℕ) → i < 8 → getD (c .allowances) i 0 + sum 8 (between (c .limits) i) ≤ c .t
-unfolding networkRules withinCeiling
-within-sum c r i l =
-    let a = both (zeroDiagonal (c .limits)) _ r in
-    let b = both (linkedBothWays (c .limits)) _ (a .1) in
-    let d = both (nothingAbove (c .n) (c .allowances) (c .limits)) _ (b .1) in
-    let e = both (everyReached (c .n) (c .limits)) _ (d .1) in
-    leb-true _ _ (every-at 8 (withinAt (c .t) (c .allowances) (c .limits)) i (e .1) l)
+-- the last two rules: every station can be reached, and the sum rule
+module _ (c : Config) (r : networkRules c ≡ true) where
+  last-two : (everyReached (c .n) (c .limits) ≡ true) × (withinCeiling (c .t) (c .allowances) (c .limits) ≡ true)
+  unfolding networkRules
+  last-two =
+      let a = both (zeroDiagonal (c .limits)) _ r in
+      let b = both (linkedBothWays (c .limits)) _ (a .1) in
+      both (everyReached (c .n) (c .limits)) _ (both (nothingAbove (c .n) (c .allowances) (c .limits)) _ (b .1) .1)
+
+  pub all-reached : Reached (c .n) (c .limits)
+  all-reached = test-reached (c .limits) (c .n) (last-two .0)
+
+  pub within-sum : (i : ℕ) → i < 8 → getD (c .allowances) i 0 + sum 8 (between (c .limits) i) ≤ c .t
+  unfolding withinCeiling
+  within-sum i l = leb-true _ _ (every-at 8 (withinAt (c .t) (c .allowances) (c .limits)) i (last-two .1) l)

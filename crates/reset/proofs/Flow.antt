@@ -6,6 +6,7 @@ use native.Mathlib.Omega.{arith}
 use lib.ListN.{length}
 use Rattle.reset.specs.Clock.{Clock}
 use Rattle.reset.specs.State.{Item, message, resetReq, resetDone}
+use Rattle.reset.specs.Receipts.{messages}
 use Rattle.reset.proofs.Changes.{Tagged, tags}
 
 -- The receiver, in phase p, has taken r reset_req and e reset_done (plus one); the sender has put R and E. Between a reset_req and its reset_done lies
@@ -15,13 +16,6 @@ Flow p r e [] R E = (r ≡ R) × (e ≡ E)
 Flow p r e (message w g ∷ q) R E = (e ≡ suc r) × (r ≤ p) × Flow p r e q R E
 Flow p r e (resetReq ∷ q) R E = (e ≡ suc r) × Flow p (suc r) e q R E
 Flow p r e (resetDone ∷ q) R E = (e ≡ r) × Flow p r (suc e) q R E
-
--- how many of the items are messages
-abbrev pub messages : {K : Clock} → List (Item K) → ℕ
-messages [] = 0
-messages (message w g ∷ q) = suc (messages q)
-messages (resetReq ∷ q) = messages q
-messages (resetDone ∷ q) = messages q
 
 module _ {K : Clock} where
   -- what was taken is at most what was put

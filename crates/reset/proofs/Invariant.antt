@@ -8,10 +8,11 @@ use mathlib.Core.Bool.{true, false}
 use native.Mathlib.Omega.{arith}
 use native.Mathlib.Decide.{ℕ-discrete}
 use Rattle.reset.specs.Config.{Config, neighbours}
+use Rattle.reset.specs.Receipts.{target, reqsTaken, donesTaken}
 use Rattle.reset.proofs.ConfigLaws.{Rules, not-itself}
 use Rattle.reset.specs.Clock.{Clock}
 use Rattle.reset.specs.State.{normal, Item, Station, State, stationAt, linkAt, reqSeen, doneSeen}
-use Rattle.reset.proofs.Changes.{target, reqsTaken, donesTaken, Tagged, tags, waiting}
+use Rattle.reset.proofs.Changes.{Tagged, tags, waiting}
 use Rattle.reset.proofs.Flow.{Flow, flow-reqs, flow-dones, flow-up, flow-append, tags-append}
 use Rattle.reset.proofs.Cases.{by-dec}
 

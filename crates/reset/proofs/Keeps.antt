@@ -12,13 +12,14 @@ use borrow.Author.Tests.{eq-eqb, ne-eqb, eqb-true, eqb-false}
 use Rattle.codec.proofs.EveryLaws.{every-at}
 use Rattle.codec.proofs.PutLaws.{put-same, put-other}
 use Rattle.reset.specs.Config.{Config, neighbours}
+use Rattle.reset.specs.Receipts.{muted, target, reqsTaken, donesTaken}
 use Rattle.reset.proofs.ConfigLaws.{Rules, neighbour-small}
 use Rattle.reset.specs.Clock.{Clock}
 use Rattle.reset.specs.State.{normal, mute, standBy, Item, resetReq, resetDone, Station, State, stationAt, linkAt, reqSeen, doneSeen, setStation, putOnAll, Mode, message, setLink}
 use Rattle.reset.specs.Steps.{everyNeighbour, begun, renewed, woken, beginReset, renew, wake, Rule, ruleA, ruleB, ruleC, noRule, ruleOf, apply, turnOnce, turn, send, recv, entered, sending, maySend, doSend, receiving, doReceive, withReq, withDone}
 use Rattle.reset.proofs.Views.{none-at, station-set, station-set-other, link-set-station, station-put-all, link-put-all, link-put-all-far, link-put-all-row, station-set-link, link-set, link-set-row, link-set-col}
 use Rattle.reset.proofs.TurnLaws.{Tested, rule-tested}
-use Rattle.reset.proofs.Changes.{muted, target, reqsTaken, donesTaken, Tagged, tags, waiting, sentOn, firstWith, gotOn}
+use Rattle.reset.proofs.Changes.{Tagged, tags, waiting, sentOn, firstWith, gotOn}
 use Rattle.reset.proofs.Flow.{Flow, flow-reqs, flow-dones}
 use Rattle.reset.proofs.Invariant.{Invariant, Maintained, kept-still, kept-then, Puts, puts-quiet, Carries, target-near, phase-near, puts-keeps, puts-waiting, puts-still, TakesOff, takes-keeps, takes-waiting, takes-still}
 use Rattle.reset.proofs.Cases.{clash, by-dec}
@@ -231,31 +232,33 @@ module _ {K : Clock} (c : Config) (u : Rules c) (s : State K) (v : Invariant c s
       (λ h. h .2)
 
   -- reset_req: it was not seen before
+  pub req-new : linkAt s j i ≡ resetReq ∷ q → suc (reqsTaken (stationAt s i) j) ≡ stationAt s i .phase + 1
+  req-new held =
+      let h = rw held at (v .flow j i (u .both-ways i j ij)) in
+      let k = flow-reqs _ _ _ q _ _ (h .1) in
+      let l = target-near c s v i j ij in
+      omega arith
+
   pub takes-req : linkAt s j i ≡ resetReq ∷ q → TakesOff c i j s (setLink (setStation s i (withReq j (stationAt s i))) j i q) resetReq q []
   takes-req held =
       taken-by (withReq j (stationAt s i)) resetReq [] held refl refl (λ k n. put-other false (stationAt s i .reqs) j k true n) (λ k n. refl) (λ k d. d)
-      (λ h. rw (put-same, moved h))
-      (λ h. rw (put-same, ← moved h) (h .1))
-    where
-      moved : Carries j (stationAt s j) (resetReq ∷ q) (stationAt s i) → suc (reqsTaken (stationAt s i) j) ≡ stationAt s i .phase + 1
-      moved h =
-          let k = flow-reqs _ _ _ q _ _ (h .1) in
-          let l = target-near c s v i j ij in
-          omega arith
+      (λ h. rw (put-same, req-new held))
+      (λ h. rw (put-same, ← req-new held) (h .1))
 
   -- reset_done: it was not seen before
+  pub done-new : linkAt s j i ≡ resetDone ∷ q → suc (donesTaken (stationAt s i) j) ≡ target (stationAt s i) + 1
+  done-new held =
+      let h = rw held at (v .flow j i (u .both-ways i j ij)) in
+      let k = flow-dones _ _ _ q _ _ (h .1) in
+      let l = phase-near c s v i j ij in
+      omega arith
+
   pub takes-done : linkAt s j i ≡ resetDone ∷ q → TakesOff c i j s (setLink (setStation s i (withDone j (stationAt s i))) j i q) resetDone q []
   takes-done held =
       taken-by (withDone j (stationAt s i)) resetDone [] held refl refl (λ k n. refl) (λ k n. put-other false (stationAt s i .dones) j k true n)
       (λ k d. by-dec (ℕ-discrete k j) (λ p. rw (p, put-same)) (λ p. put-other false (stationAt s i .dones) j k true p ∙ d))
       (λ h. refl)
-      (λ h. rw (put-same, ← moved h) (h .1))
-    where
-      moved : Carries j (stationAt s j) (resetDone ∷ q) (stationAt s i) → suc (donesTaken (stationAt s i) j) ≡ target (stationAt s i) + 1
-      moved h =
-          let k = flow-dones _ _ _ q _ _ (h .1) in
-          let l = phase-near c s v i j ij in
-          omega arith
+      (λ h. rw (put-same, ← done-new held) (h .1))
 
   -- the message is the first that waits
   pub receive-keeps : (w : K .Load) (g : ℕ) → linkAt s j i ≡ message w g ∷ q → Invariant c (doReceive i j w g q s .after)

@@ -18,4 +18,8 @@ pub mod RestLaws
 pub mod Books
 pub mod BooksKept
 pub mod NeverBeyond
+pub mod Taken
+pub mod Lowers
+pub mod Emptied
+pub mod ExactReceipts
 pub mod NewsLaws

@@ -70,7 +70,7 @@ run-books : (c : Config) → Rules c → networkRules c ≡ true → (s : State 
 run-books c u r s v w [] = (v, w)
 run-books c u r s v w (p ∷ ps) = run-books c u r _ (step-keeps c u s v p) (safe-step c u r s v w p .books) ps
 
-initial-books : (c : Config) → Rules c → Books c (initial vector c)
+pub initial-books : (c : Config) → Rules c → Books c (initial vector c)
 initial-books c u =
     record {
       targets = λ i l. rw (initial-station vector c i l) (omega arith);

@@ -10,12 +10,13 @@ use borrow.Author.Tests.{eqb-true, leb-true, eq-eqb}
 use Rattle.codec.specs.Every.{every}
 use Rattle.codec.proofs.EveryLaws.{both, join, every-at, every-of}
 use Rattle.reset.specs.Config.{Config, isStation, neighbours, places}
+use Rattle.reset.specs.Receipts.{target, reqsTaken, donesTaken}
 use Rattle.reset.proofs.ConfigLaws.{Rules, neighbour-small}
 use Rattle.reset.specs.Clock.{Clock}
 use Rattle.reset.specs.State.{normal, Item, message, resetReq, resetDone, State, stationAt, linkAt, reqSeen}
 use Rattle.reset.specs.Steps.{someNeighbour, ruleC, noRule, recv, refused, guard, inBounds, isNormal, step}
 use Rattle.reset.specs.Network.{linkEmpty, linksEmpty, stationsQuiescent, quiescent}
-use Rattle.reset.proofs.Changes.{target, reqsTaken, donesTaken, tags, waiting}
+use Rattle.reset.proofs.Changes.{tags, waiting}
 use Rattle.reset.proofs.Flow.{Flow, flow-reqs, flow-dones}
 use Rattle.reset.proofs.Coherent.{Coherent}
 use Rattle.reset.proofs.Formed.{bounds}
@@ -73,19 +74,19 @@ module _ {K : Clock} (c : Config) (s : State K) where
       let l : length (linkAt s i j) ≤ 0 = rw n at (leb-true (length (linkAt s i j)) (places c i j) (bounds c s b .links i j il jl)) in
       none-long _ (omega arith)
 
-  module _ (u : Rules c) (v : Coherent c s) (w : stationsQuiescent c s ≡ true) where
+  module _ (u : Rules c) (v : Coherent c s) where
     -- a normal station has no req seen, for rule c would apply
-    no-req : (i j : ℕ) → i < c .n → neighbours c i j ≡ true → reqSeen (stationAt s i) j ≡ false
+    pub no-req : (i j : ℕ) → i < c .n → stationAt s i .mode ≡ normal → neighbours c i j ≡ true → reqSeen (stationAt s i) j ≡ false
     unfolding someNeighbour
-    no-req i j l ij =
-        by-test (someNeighbour c i (reqSeen (stationAt s i))) (λ e. let z : ruleC ≡ noRule = rw (all-normal w i l, e) at (v .no-rule i l) in clash (cc))
+    no-req i j l m ij =
+        by-test (someNeighbour c i (reqSeen (stationAt s i))) (λ e. let z : ruleC ≡ noRule = rw (m, e) at (v .no-rule i l) in clash (cc))
         (λ e. rw ij at (some-fails 8 _ e j (neighbour-small c u i j ij)))
 
-    pub none-waiting : (i j : ℕ) → neighbours c i j ≡ true → waiting s i j ≡ [] → linkAt s i j ≡ []
-    none-waiting i j ij t =
+    pub none-waiting : stationsQuiescent c s ≡ true → (i j : ℕ) → neighbours c i j ≡ true → waiting s i j ≡ [] → linkAt s i j ≡ []
+    none-waiting w i j ij t =
         let ji = u .both-ways i j ij in
         let il = u .inside j i ji in
         let jl = u .inside i j ij in
-        let a : reqsTaken (stationAt s j) i ≡ target (stationAt s i) = rw (all-normal w i il, no-req j i jl ji, one-phase w i il, one-phase w j jl) in
+        let a : reqsTaken (stationAt s j) i ≡ target (stationAt s i) = rw (all-normal w i il, no-req j i jl (all-normal w j jl) ji, one-phase w i il, one-phase w j jl) in
         let b : donesTaken (stationAt s j) i ≡ suc (stationAt s i .phase) = rw (v .invariant .seen j i ji (all-normal w j jl), all-normal w j jl, one-phase w i il, one-phase w j jl) (omega arith) in
         flow-still _ _ _ (linkAt s i j) _ _ (v .invariant .flow i j ij) a b t

@@ -64,7 +64,7 @@ abbrev pub next : {K : Clock} → Config → ℕ → Station K → Station K
 next c i x = applied x (ruleOf c i x)
 
 module _ {K : Clock} (c : Config) (i : ℕ) where
-  station-apply : (s : State K) (r : Rule) → stationAt (apply c i s r) i ≡ applied (stationAt s i) r
+  pub station-apply : (s : State K) (r : Rule) → stationAt (apply c i s r) i ≡ applied (stationAt s i) r
   unfolding beginReset renew wake
   station-apply s ruleA = rw (station-put-all, station-set)
   station-apply s ruleB = rw station-set
@@ -75,7 +75,7 @@ module _ {K : Clock} (c : Config) (i : ℕ) where
   unfolding turnOnce
   station-turn-once s = station-apply s (ruleOf c i (stationAt s i))
 
-  station-apply-other : (s : State K) (r : Rule) (k : ℕ) → k ≢ i → stationAt (apply c i s r) k ≡ stationAt s k
+  pub station-apply-other : (s : State K) (r : Rule) (k : ℕ) → k ≢ i → stationAt (apply c i s r) k ≡ stationAt s k
   unfolding beginReset renew wake
   station-apply-other s ruleA k n = station-put-all c _ i _ k ∙ station-set-other s i _ k n
   station-apply-other s ruleB k n = station-set-other s i _ k n

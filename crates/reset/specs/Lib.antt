@@ -6,6 +6,8 @@ pub mod Steps
 pub mod Bears
 pub mod Network
 pub mod Bounds
+pub mod Receipts
 pub mod WellFormed
 pub mod Worked
 pub mod WorkedStates
+pub mod WorkedReceipts

@@ -94,7 +94,7 @@ abbrev pub two : {A : Type 0} → A → A → A → List A
 two d a b = a ∷ b ∷ replicate 6 d
 
 -- a record of station 0: its counts for itself and for 1, mode, phase, own entries, messages sent to 1, req and done seen from 1
-abbrev held : ℕ → ℕ → Mode → ℕ → ℕ → ℕ → Bool → Bool → Station vector
+abbrev pub held : ℕ → ℕ → Mode → ℕ → ℕ → ℕ → Bool → Bool → Station vector
 held a b m p e f q d =
     record { time = two 0 a b; mode = m; phase = p; own = e; sent = two 0 0 f; reqs = two false false q; dones = two false false d }
 
@@ -103,14 +103,14 @@ abbrev counting : List ℕ → Station vector
 counting v = withTime v blankStation
 
 -- the initial state with that record, and with q on the link from i to j
-abbrev with : Station vector → State vector
+abbrev pub with : Station vector → State vector
 with x = setStation (initial vector pair) 0 x
 
-abbrev on : ℕ → ℕ → List (Item vector) → State vector → State vector
+abbrev pub on : ℕ → ℕ → List (Item vector) → State vector → State vector
 on i j q s = setLink s i j q
 
 -- n messages that bear a and b
-abbrev notes : ℕ → ℕ → ℕ → List (Item vector)
+abbrev pub notes : ℕ → ℕ → ℕ → List (Item vector)
 notes n a b = replicate n (message (two 0 a b) 4294967295)
 
 -- the initial state with station 1 in a phase, and nothing else changed
