@@ -10,6 +10,7 @@ use lib.ListN.{length, getD, set, take}
 use lib.Seq.{getD-set-same, getD-set-other}
 use Rattle.codec.specs.Every.{sum}
 use Rattle.codec.proofs.EveryLaws.{sum-more}
+use Rattle.codec.proofs.SumLaws.{sum-add}
 use Rattle.checksum.specs.Check.{weighted}
 use Rattle.checksum.specs.Columns.{columnSum, columnRows, columnShare, columnsTo, SumsAt}
 use Rattle.checksum.proofs.CheckLaws.{weighted-more, weighted-none}
@@ -20,12 +21,6 @@ sum-same : (n : ℕ) (f g : ℕ → ℕ) → ((i : ℕ) → f i ≡ g i) → sum
 unfolding sum
 sum-same zero f g h = refl
 sum-same (suc n) f g h = omega (arith, sum-same n f g h, h n)
-
--- a sum in two parts
-sum-add : (n m : ℕ) (f : ℕ → ℕ) → sum (n + m) f ≡ sum n f + sum m (λ (i : ℕ). f (n + i))
-unfolding sum
-sum-add n zero f = let e : n + 0 ≡ n = omega arith in rw e (omega arith)
-sum-add n (suc m) f = let e : n + suc m ≡ suc (n + m) = omega arith in rw e (omega (arith, sum-add n m f))
 
 -- two sums in one
 sum-both : (n : ℕ) (f g : ℕ → ℕ) → sum n (λ (i : ℕ). f i + g i) ≡ sum n f + sum n g

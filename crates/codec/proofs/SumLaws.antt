@@ -1,9 +1,11 @@
 -- Laws of sums, also of tables by rows, and of the greatest number. Assumes nothing.
-use Prim.Native.Nat.{ℕ, zero, suc, _+_, _≤_, _<_, max}
+use Prim.Native.Nat.{ℕ, zero, suc, _+_, _*_, _≤_, _<_, max}
 use mathlib.Core.Path.{_≡_, refl, sym}
 use mathlib.Core.Logic.{_≢_}
 use native.Mathlib.Omega.{arith}
 use native.Mathlib.Decide.{ℕ-discrete}
+use native.Mathlib.Numerals.{add-one}
+use native.Mathlib.Nat.{zero-mul, suc-mul}
 use Rattle.codec.specs.Every.{sum, greatest}
 
 -- each at most the other's, so is the sum
@@ -33,6 +35,17 @@ sum-grows (suc n) f g j h e o = go (ℕ-discrete j n) (λ l. sum-grows n f g j l
     go (yes p) r = let k = sum-same n g f (λ m l. o m (omega arith)) in let l : g n ≡ suc (f n) = rw p at e in omega arith
     go (no p) r = let k = r (omega arith) in let l = o n (λ q. p (sym q)) in omega arith
 
+-- a sum in two parts, and by rows of w numbers
+pub sum-add : (n m : ℕ) (f : ℕ → ℕ) → sum (n + m) f ≡ sum n f + sum m (λ (i : ℕ). f (n + i))
+unfolding sum
+sum-add n zero f = let e : n + 0 ≡ n = omega arith in rw e (omega arith)
+sum-add n (suc m) f = let e : n + suc m ≡ suc (n + m) = omega arith in rw e (omega (arith, sum-add n m f))
+
+pub sum-rows : (w n : ℕ) (f : ℕ → ℕ) → sum (n * w) f ≡ sum n (λ (i : ℕ). sum w (λ (j : ℕ). f (i * w + j)))
+unfolding sum
+sum-rows w zero f = rw zero-mul
+sum-rows w (suc n) f = rw (suc-mul, sum-add, sum-rows w n f)
+
 -- ---- tables of n rows of m numbers
 module _ (n m : ℕ) (f g : ℕ → ℕ → ℕ) where
   pub table-same : ((i j : ℕ) → f i j ≡ g i j) → sum n (λ (i : ℕ). sum m (f i)) ≡ sum n (λ (i : ℕ). sum m (g i))
@@ -46,6 +59,16 @@ module _ (n m : ℕ) (f g : ℕ → ℕ → ℕ) where
       (λ a k. sum-same m (g a) (f a) (λ b l. o a b (λ p q. k p)))
 
 -- ---- the greatest
+pub greatest-none : (f : ℕ → ℕ) → greatest 0 f ≡ 0
+unfolding greatest
+greatest-none f = refl
+
+-- of one number more
+pub greatest-more : (n : ℕ) (f : ℕ → ℕ) → greatest (n + 1) f ≡ max (greatest n f) (f n)
+unfolding greatest
+greatest-more n f = rw add-one
+
+-- at least each, and at most what each is
 pub greatest-at : (n : ℕ) (f : ℕ → ℕ) (i : ℕ) → i < n → f i ≤ greatest n f
 unfolding greatest
 greatest-at zero f i h = absurd (omega arith)

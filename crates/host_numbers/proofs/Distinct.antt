@@ -23,6 +23,7 @@ use Rattle.archive.specs.declared.Counted.{Counted}
 use Rattle.archive.specs.declared.Counted.the-variants.{Count, Refused as NotCounted}
 use Rattle.concurrent.specs.Unordered.{unorderedCount, unorderedAnswer}
 use Rattle.reset.specs.Network.{quiescent}
+use Rattle.reset.specs.Receipts.{receiptsToRest}
 use Rattle.reset.specs.Config.{Config}
 use Rattle.reset.specs.Clock.{vector}
 use Rattle.reset.specs.State.{Mode, normal, mute, standBy, State}
@@ -32,13 +33,13 @@ use Rattle.reset.proofs.ConfigLaws.{shape}
 use Rattle.reset.proofs.NewsLaws.{news-of-others}
 use Rattle.reset.proofs.StepLaws.{within, of-attempt}
 use Rattle.area.specs.Layout.{configAt, stateAt, test}
-use Rattle.area_calls.specs.Calls.{AreaStep, imaged, stepOn, RestAnswer, yes, no, restOn, restRefused}
+use Rattle.area_calls.specs.Calls.{AreaStep, imaged, stepOn, RestAnswer, yes, no, restOn, restRefused, ReceiptsAnswer, receiptsLeft, receiptsRefused, receiptsOn}
 use Rattle.station.specs.Image.{modeByte, modeOf}
 use Rattle.step_parts.specs.Answers.{modeCode, steppedOf}
 use Rattle.step_parts.proofs.Read.{Passed, passed, made}
 use Rattle.step_parts.specs.declared.answer.Answer.{Answer as CodeAnswer}
 use Rattle.step_parts.specs.declared.answer.Answer.the-variants.{Refused as NotDone, Entered, InMode}
-use Rattle.host_numbers.specs.Numbers.{Alike, entryMade, tells, modes, counts, stepNumber, restNumber, orderNumber, verdictNumber, blockNumber, countedNumber}
+use Rattle.host_numbers.specs.Numbers.{Alike, entryMade, tells, modes, counts, stepNumber, restNumber, receiptsNumber, orderNumber, verdictNumber, blockNumber, countedNumber}
 use Rattle.host_numbers.proofs.Tests.{by-test}
 
 -- the answer x is read back from its number; so one number is one answer
@@ -147,6 +148,19 @@ rest-back a = by-test (Back restNumber restAt) (test a) (by-test (Back restNumbe
 
 pub rests-distinct : (a b : List ℕ) → restNumber (restOn a) ≡ restNumber (restOn b) → restOn a ≡ restOn b
 rests-distinct a b = one restNumber restAt _ _ (rest-back a) (rest-back b)
+
+-- ---- receipts to rest, which start at 1,000
+abbrev receiptsAt : ℕ → ReceiptsAnswer
+receiptsAt k = cond (ltb k tells) (receiptsRefused k) (receiptsLeft (k - tells))
+
+receipts-back : (a : List ℕ) → Back receiptsNumber receiptsAt (receiptsOn a)
+unfolding receiptsOn
+receipts-back a =
+    let n : ℕ = receiptsToRest (configAt a) (stateAt a) in
+    by-test (Back receiptsNumber receiptsAt) (test a) (rw (told-low n, told-rest n)) refl
+
+pub receipts-distinct : (a b : List ℕ) → receiptsNumber (receiptsOn a) ≡ receiptsNumber (receiptsOn b) → receiptsOn a ≡ receiptsOn b
+receipts-distinct a b = one receiptsNumber receiptsAt _ _ (receipts-back a) (receipts-back b)
 
 -- ---- verdicts
 abbrev verdictAt : ℕ → Compared

@@ -10,7 +10,7 @@ use Rattle.entries.specs.declared.EntriesRead.the-variants.{Block, Refused as N
 use Rattle.archive.specs.declared.Counted.{Counted}
 use Rattle.archive.specs.declared.Counted.the-variants.{Count, Refused as NotCounted}
 use Rattle.reset.specs.Steps.{Answer, refused, entry, modeAfter}
-use Rattle.area_calls.specs.Calls.{RestAnswer, yes, no, restRefused}
+use Rattle.area_calls.specs.Calls.{RestAnswer, yes, no, restRefused, ReceiptsAnswer, receiptsLeft, receiptsRefused}
 use Rattle.station.specs.Image.{modeByte}
 use Rattle.station.specs.View.{modeView}
 use Rattle.step_parts.specs.Answers.{steppedOf}
@@ -68,6 +68,11 @@ abbrev pub restNumber : RestAnswer → ℕ
 restNumber yes = 100
 restNumber no = 101
 restNumber (restRefused k) = k
+
+-- receipts to rest: 1,000 + how many are left
+abbrev pub receiptsNumber : ReceiptsAnswer → ℕ
+receiptsNumber (receiptsLeft k) = tells + k
+receiptsNumber (receiptsRefused k) = k
 
 -- a verdict: 100 before, 101 after, 102 same, 103 unordered
 abbrev pub orderNumber : Verdict → ℕ

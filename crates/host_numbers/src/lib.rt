@@ -5,13 +5,15 @@ ghost use lib.ListN.{length};
 ghost use Rattle.codec.specs.Splice.{splice};
 ghost use Rattle.header.specs.Header.{tableAt, parseHeader};
 ghost use Rattle.quiescence.specs.View.{restView};
-ghost use Rattle.host_numbers.specs.Numbers.{fieldsLength, greatest, blockNumber, restNumber, orderNumber, verdictNumber, countedNumber, codeNumber, isEntry};
+ghost use Rattle.receipts.specs.View.{receiptsView};
+ghost use Rattle.host_numbers.specs.Numbers.{fieldsLength, greatest, blockNumber, restNumber, receiptsNumber, orderNumber, verdictNumber, countedNumber, codeNumber, isEntry};
 ghost use Rattle.host_numbers.specs.Headers.{fieldsFit, headerGiven, fieldBytes};
 use archive::Counted;
 use clock::Verdict;
 use entries::EntriesRead;
 use header::Header;
 use quiescence::RestAnswer;
+use receipts::ReceiptsAnswer;
 use station::Mode;
 use step_parts::answer::Answer;
 use verdict::Compared;
@@ -85,6 +87,15 @@ pub fn rest_number(answer: RestAnswer) -> u64
         RestAnswer::Yes => REST_YES,
         RestAnswer::No => REST_NO,
         RestAnswer::Refused(k) => k as u64,
+    }
+}
+
+pub fn receipts_number(answer: ReceiptsAnswer) -> u64
+    ensures { λ r. ⌜ r ≡ receiptsNumber (receiptsView answer) ⌝ }
+{
+    match answer {
+        ReceiptsAnswer::Left(n) => TOLD + (n as u64),
+        ReceiptsAnswer::Refused(k) => k as u64,
     }
 }
 

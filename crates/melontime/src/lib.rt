@@ -5,8 +5,8 @@ ghost use Rattle.archive.specs.Archive.{countRecords};
 ghost use Rattle.reset.specs.Steps.{enter as Enter, send as Send, recv as Recv, start as Start};
 ghost use Rattle.verdict.specs.Compare.{verdictOn};
 ghost use Rattle.entries.specs.Entries.{writeEntries, readEntries, readRecord};
-ghost use Rattle.area_calls.specs.Calls.{setupOn, restOn};
-ghost use Rattle.host_numbers.specs.Numbers.{recordLength, blockNumber, restNumber, verdictNumber, countedNumber, codeNumber};
+ghost use Rattle.area_calls.specs.Calls.{setupOn, restOn, receiptsOn};
+ghost use Rattle.host_numbers.specs.Numbers.{recordLength, blockNumber, restNumber, receiptsNumber, verdictNumber, countedNumber, codeNumber};
 ghost use Rattle.melontime.specs.Calls.{Returns, eventAfter};
 ghost use Rattle.host_numbers.specs.Headers.{headerWritten, headerFields};
 ghost use Rattle.melontime.specs.Archives.{recordFound, HostList};
@@ -95,6 +95,13 @@ pub extern "C" fn melontime_rest(area: &[u8]) -> u64
     ensures { λ r. ⌜ r ≡ restNumber (restOn (now (area .entry))) ⌝ }
 {
     host_numbers::rest_number(quiescence::rest(area))
+}
+
+#[no_mangle]
+pub extern "C" fn melontime_receipts_to_rest(area: &[u8]) -> u64
+    ensures { λ r. ⌜ r ≡ receiptsNumber (receiptsOn (now (area .entry))) ⌝ }
+{
+    host_numbers::receipts_number(receipts::to_rest(area))
 }
 
 #[no_mangle]

@@ -75,7 +75,7 @@ module _ {K : Clock} (c : Config) (i : ℕ) where
   unfolding turnOnce
   station-turn-once s = station-apply s (ruleOf c i (stationAt s i))
 
-  pub station-apply-other : (s : State K) (r : Rule) (k : ℕ) → k ≢ i → stationAt (apply c i s r) k ≡ stationAt s k
+  station-apply-other : (s : State K) (r : Rule) (k : ℕ) → k ≢ i → stationAt (apply c i s r) k ≡ stationAt s k
   unfolding beginReset renew wake
   station-apply-other s ruleA k n = station-put-all c _ i _ k ∙ station-set-other s i _ k n
   station-apply-other s ruleB k n = station-set-other s i _ k n
