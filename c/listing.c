@@ -1,6 +1,6 @@
 /* The worked listing of document 01 from C: its steps, the archive of its
-   entries, what the archive answers, and every refusal. What it prints is held
-   to listing.out. */
+   entries, what the archive answers, a network that is laid up, and every refusal.
+   What it prints is held to listing.out. */
 #include <inttypes.h>
 #include <stdio.h>
 #include <stdlib.h>
@@ -183,6 +183,34 @@ static void try_rest(void) {
     must(melontime_rest(area, sizeof area) == MELONTIME_REST_YES, "the message is received");
 }
 
+/* How many receipts are still to come. */
+static uint64_t receipts_to_rest(void) {
+    uint64_t answer = melontime_receipts_to_rest(area, sizeof area);
+    must(answer >= MELONTIME_TOLD, "the receipts to rest are told");
+    return MELONTIME_COUNT(answer);
+}
+
+/* A message and a reset are under way, and nothing but receipts is done. */
+static void try_receipts_to_rest(void) {
+    static const struct step receipts[] = {
+        {RECV, 0, 1, 0}, {RECV, 1, 0, 0}, {RECV, 1, 0, 0}, {RECV, 1, 0, 0}, {RECV, 0, 1, 0},
+    };
+    setup();
+    must(receipts_to_rest() == 0, "there is nothing to receive");
+    accepted((struct step){SEND, 0, 1, 1});
+    accepted((struct step){START, 1, 0, 0});
+    printf("receipts to rest: %" PRIu64, receipts_to_rest());
+    for (size_t k = 0; k < sizeof receipts / sizeof receipts[0]; k++) {
+        uint64_t before = receipts_to_rest();
+        must(melontime_rest(area, sizeof area) == MELONTIME_REST_NO, "the network is not at rest");
+        accepted(receipts[k]);
+        must(receipts_to_rest() == before - 1, "a receipt is one less to come");
+        printf(" %" PRIu64, receipts_to_rest());
+    }
+    printf("\n");
+    must(melontime_rest(area, sizeof area) == MELONTIME_REST_YES, "the network is at rest");
+}
+
 /* The number of counts that a message raised: one, and none. */
 static void try_news(void) {
     uint8_t event[MELONTIME_RECORD];
@@ -239,6 +267,8 @@ static void try_refusals(void) {
     refused_step("an entry above the ceiling", (struct step){ENTER, 0, 0, 1},
                  MELONTIME_REFUSED_ILL_FORMED_STATE);
     refused("rest of no state", melontime_rest(area, sizeof area), MELONTIME_REFUSED_ILL_FORMED_STATE);
+    refused("receipts to rest of no state", melontime_receipts_to_rest(area, sizeof area),
+            MELONTIME_REFUSED_ILL_FORMED_STATE);
 
     refused("a verdict over phases",
             melontime_verdict(records, MELONTIME_RECORD, records + MELONTIME_RECORD * (count - 1), MELONTIME_RECORD),
@@ -269,6 +299,7 @@ int main(void) {
     write_archive();
     read_archive();
     try_rest();
+    try_receipts_to_rest();
     try_news();
     try_refusals();
     return 0;

@@ -93,7 +93,8 @@ enum { MELONTIME_NORMAL = 0, MELONTIME_MUTE = 1, MELONTIME_STAND_BY = 2 };
 #define MELONTIME_BLOCK_NUMBER(answer) (((answer)-MELONTIME_TOLD) / 16)
 #define MELONTIME_BLOCK_RECORDS(answer) (((answer)-MELONTIME_TOLD) % 16)
 
-/* How many archive_records counts, and how many unordered lists. */
+/* How many archive_records counts, how many unordered lists, and how many
+   receipts receipts_to_rest tells. */
 #define MELONTIME_COUNT(answer) ((answer)-MELONTIME_TOLD)
 
 /* Makes an area of MELONTIME_AREA bytes the initial network of a header block. */
@@ -121,6 +122,12 @@ uint64_t melontime_start(uint8_t *area, size_t area_length, uint8_t *event, size
 
 /* Whether every station is normal, all in one phase, and no link holds an item. */
 uint64_t melontime_rest(const uint8_t *area, size_t area_length);
+
+/* How many receipts bring the network to rest where nothing else is done: the
+   messages under way, and the control items that are still to be received. On an
+   area that setup has made and only steps have changed, just so many calls of
+   recv are accepted, in whichever order, and then rest is yes. */
+uint64_t melontime_receipts_to_rest(const uint8_t *area, size_t area_length);
 
 /* The order of two events of one phase, by their records. */
 uint64_t melontime_verdict(const uint8_t *first, size_t first_length, const uint8_t *second,

@@ -1,5 +1,6 @@
 // Drives networks over a lent area. A line of the input is a call: its number, its numbers, and behind a bar what is written of it; what it
 // answers follows. `case` has the calls.
+mod drain;
 mod setups;
 mod show;
 
@@ -22,9 +23,12 @@ fn stepped(area: &mut [u8], k: u64, s: &[u8]) -> Stepped {
     }
 }
 
+// A call on an area of any length: 1 to 4 a step, 5 rest, 6 receipts to rest.
 fn call(area: &mut [u8], k: u64, s: &[u8]) {
     if k == 5 {
         show::rest(s, quiescence::rest(area));
+    } else if k == 6 {
+        show::receipts(s, receipts::to_rest(area));
     } else {
         show::answer(s, check_vectors::word(s, 2), stepped(area, k, s));
     }
@@ -101,6 +105,20 @@ fn change(area: &mut [u8; 65536], k: u64, s: &[u8]) {
     }
 }
 
+fn drive(area: &mut [u8; 65536], k: u64, s: &[u8]) {
+    match k {
+        12 => {
+            drain::walk(area, s);
+        }
+        13 => {
+            drain::drain(area, s);
+        }
+        _ => {
+            call(area, 6, s);
+        }
+    }
+}
+
 // 30 ends a line; 31 the bytes that are not 7; 32 the digest.
 fn sum_up(area: &[u8], k: u64) {
     match k {
@@ -116,16 +134,19 @@ fn sum_up(area: &[u8], k: u64) {
     }
 }
 
-// Calls: 1 enter, 2 send, 3 recv, 4 start, 5 rest; 21 to 25 the same on all bytes of the area but the last; 6 sets a byte; 7 is a
-// receipt by every station from every station, and shows those that are accepted; 8 sets all bytes to 7; 9 setup, 10 with its answer; 11
-// raises each byte alone; from 30 on what is written of the area.
+// Calls: 1 enter, 2 send, 3 recv, 4 start, 5 rest, 14 receipts to rest; 21 to 26 the same on all bytes of the area but the last; 6 sets a
+// byte; 7 is a receipt by every station from every station, and shows those that are accepted; 8 sets all bytes to 7; 9 setup, 10 with its
+// answer; 11 raises each byte alone; 12 random steps; 13 receipts alone on a copy, until none is accepted; from 30 on what is written of the
+// area.
 fn case(area: &mut [u8; 65536], s: &[u8]) {
     check_vectors::label(s);
     let k = check_vectors::field(s, 0);
     if k < 6 {
         call(area, k, s);
-    } else if k < 20 {
+    } else if k < 12 {
         change(area, k, s);
+    } else if k < 20 {
+        drive(area, k, s);
     } else if k < 30 {
         short(area, k % 10, s);
     } else {

@@ -1,5 +1,6 @@
 // Answers, as lines.
 use quiescence::RestAnswer;
+use receipts::ReceiptsAnswer;
 use record::Record;
 use station::Mode;
 use step_parts::answer::Answer;
@@ -70,8 +71,8 @@ pub fn answer(s: &[u8], station: u32, r: Stepped) {
     check_vectors::end();
 }
 
-pub fn rest(s: &[u8], r: RestAnswer) {
-    number(s);
+// Whether it is at rest, and the line's end.
+pub fn rest_word(r: RestAnswer) {
     match r {
         RestAnswer::Yes => {
             io::write_all(1, b" rest yes\n");
@@ -83,6 +84,30 @@ pub fn rest(s: &[u8], r: RestAnswer) {
             check_vectors::say(b" rest refused ", check_vectors::wide(k));
         }
     }
+}
+
+pub fn rest(s: &[u8], r: RestAnswer) {
+    number(s);
+    rest_word(r);
+}
+
+// How many receipts are left, or a refusal.
+pub fn left(r: ReceiptsAnswer) {
+    match r {
+        ReceiptsAnswer::Left(n) => {
+            check_vectors::put(b" ", n as u64);
+        }
+        ReceiptsAnswer::Refused(k) => {
+            check_vectors::put(b" refused ", check_vectors::wide(k));
+        }
+    }
+}
+
+pub fn receipts(s: &[u8], r: ReceiptsAnswer) {
+    number(s);
+    io::write_all(1, b" receipts");
+    left(r);
+    check_vectors::end();
 }
 
 fn refusal_of(a: Answer) -> u8 {

@@ -34,6 +34,19 @@ pub fn idle_area() -> Vec<u8> {
 
 /// The complete network with every link nearly full of messages.
 pub fn busy_area() -> Vec<u8> {
+    area::image(&busy())
+}
+
+/// The same where every station has started a reset behind the messages.
+pub fn busy_reset_area() -> Vec<u8> {
+    let mut state = busy();
+    for station in 0..8 {
+        assert!(state.step(Step::Start { station }).is_ok());
+    }
+    area::image(&state)
+}
+
+fn busy() -> State {
     let mut state = initial();
     for i in 0..8 {
         for j in (0..8).filter(|&j| j != i) {
@@ -48,7 +61,7 @@ pub fn busy_area() -> Vec<u8> {
         }
         state.stations[i].counts[i] = 1000;
     }
-    area::image(&state)
+    state
 }
 
 fn pairs() -> impl Iterator<Item = (usize, usize)> {

@@ -138,6 +138,37 @@ fn rest_row(what: &str) {
     print_row(what, 1.0, library, [Some(rust), Some(place), Some(plain)]);
 }
 
+/// A row of the receipts to rest of an area, of which there are so many.
+fn receipts_row(what: &str, bytes: &[u8], receipts: u64) {
+    assert_eq!(raw::receipts_to_rest(bytes), 1000 + receipts);
+    assert_eq!(area::receipts_to_rest(bytes), Ok(receipts));
+    assert_eq!(in_place::receipts_to_rest(bytes), Ok(receipts));
+    let [library, rust, place, plain] = sides([
+        &mut || {
+            black_box(raw::receipts_to_rest(black_box(bytes)));
+        },
+        &mut || {
+            let _ = black_box(area::receipts_to_rest(black_box(bytes)));
+        },
+        &mut || {
+            let _ = black_box(in_place::receipts_to_rest(black_box(bytes)));
+        },
+        &mut || {
+            black_box(read(black_box(bytes)));
+        },
+    ]);
+    print_row(what, 1.0, library, [Some(rust), Some(place), Some(plain)]);
+}
+
+fn idle_receipts_row(what: &str) {
+    receipts_row(what, &inputs::idle_area(), 0);
+}
+
+/// On each of 56 links 30 messages, and a req and a done to come.
+fn busy_receipts_row(what: &str) {
+    receipts_row(what, &inputs::busy_reset_area(), 56 * (30 + 2));
+}
+
 fn verdict_row(what: &str) {
     let pairs = inputs::record_pairs(256);
     for (first, second) in &pairs {
@@ -294,8 +325,10 @@ fn main() -> std::io::Result<()> {
     let is_wanted = |what: &str| what.contains(&wanted);
     print_head();
     steps_rows(is_wanted);
-    let calls: [(&str, Row); 3] = [
+    let calls: [(&str, Row); 5] = [
         ("rest, idle network of eight", rest_row),
+        ("receipts to rest, idle network of eight", idle_receipts_row),
+        ("receipts to rest, busy network of eight", busy_receipts_row),
         ("setup", setup_row),
         ("verdict", verdict_row),
     ];

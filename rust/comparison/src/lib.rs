@@ -11,6 +11,7 @@ use reference::network::{Answer, Mode, Outcome, Step};
 use reference::order::Verdict;
 use reference::random::Rng;
 use reference::refusal::Refusal;
+use reference::{area, in_place};
 
 fn variable(name: &str) -> Option<u64> {
     let text = env::var(name).ok()?;
@@ -72,6 +73,22 @@ pub fn counted(result: Result<usize, Refusal>) -> u64 {
 /// The number of rest.
 pub fn rested(result: Result<bool, Refusal>) -> u64 {
     result.map_or_else(refusal, |yes| if yes { 100 } else { 101 })
+}
+
+/// The number of receipts to rest.
+pub fn to_rest(result: Result<u64, Refusal>) -> u64 {
+    result.map_or_else(refusal, |receipts| 1000 + receipts)
+}
+
+/// Receipts to rest by the library, the reference and the version in place: one
+/// number, and the bytes are left.
+pub fn compare_receipts_to_rest(bytes: &[u8]) -> u64 {
+    let lent = bytes.to_vec();
+    let answer = raw::receipts_to_rest(&lent);
+    assert!(lent == bytes, "the area is left");
+    assert_eq!(answer, to_rest(area::receipts_to_rest(bytes)));
+    assert_eq!(answer, to_rest(in_place::receipts_to_rest(bytes)));
+    answer
 }
 
 /// The number of a verdict.

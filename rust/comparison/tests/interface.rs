@@ -9,7 +9,7 @@ use reference::area;
 use reference::at_bounds::by_hand;
 use reference::generate::{
     any_archive, any_network, any_ranged_header, any_state, mutated_archive, network, next_step,
-    rule_breaker, state_with_news, Habits, NetworkWish, RuleBreak,
+    receipts_waiting, rule_breaker, state_with_news, Habits, NetworkWish, RuleBreak,
 };
 use reference::network::{Answer, State, Step};
 use reference::random::Rng;
@@ -129,6 +129,10 @@ fn run(rng: &mut Rng, header: &reference::header::Header) -> Vec<reference::reco
         assert_eq!(taken, expected, "{step:?}");
         assert_eq!(Ok(network.is_quiescent()), state.rest());
         assert_eq!(Ok(lent.is_quiescent()), state.rest());
+        let receipts = state.receipts_to_rest().expect("a reached state");
+        assert_eq!(network.receipts_to_rest(), receipts);
+        assert_eq!(lent.receipts_to_rest(), receipts);
+        assert_eq!(reached.receipts_to_rest(), receipts);
         if let Ok(Answer::Entry { record, .. }) = answer {
             records.push(record);
         }
@@ -140,6 +144,49 @@ fn run(rng: &mut Rng, header: &reference::header::Header) -> Vec<reference::reco
     let stored = Network::from_bytes(network.as_bytes()).expect("an image");
     assert!(stored == network);
     records
+}
+
+/// Receipts alone in random order, also some that are refused, until none is
+/// left; both are at rest then.
+fn lay_up(rng: &mut Rng, reached: &mut Reached, mut state: State) {
+    let mut laid_up = reached.receipts_only();
+    while laid_up.left() > 0 {
+        assert!(!laid_up.is_at_rest());
+        let waiting = receipts_waiting(&state);
+        let (station, peer) = match rng.pick(&waiting) {
+            Step::Recv { station, peer } if rng.chance(7, 8) => (station, peer),
+            _ => (rng.index(9), rng.index(9)),
+        };
+        let left = laid_up.left();
+        let expected = state.step(Step::Recv { station, peer });
+        let taken = laid_up.recv(station as u32, peer as u32);
+        let accepted = u64::from(taken.is_ok());
+        assert_eq!(laid_up.left() + accepted, left);
+        let taken = taken.map(Taken::Outcome).map_err(Refusal::from);
+        assert_eq!(taken, expected.map(taken_of).map_err(refusal_of));
+    }
+    assert!(laid_up.is_at_rest() && receipts_waiting(&state).is_empty());
+    assert!(reached.network().as_bytes() == area::image(&state));
+}
+
+/// The accepted steps of a run, and after some of them a copy that is laid up.
+#[test]
+fn networks_that_are_laid_up() {
+    cases("networks_that_are_laid_up", 60, |rng| {
+        let header = any_network(rng);
+        let mut reached = Reached::setup(&header_of(&header)).expect("a network");
+        let mut state = State::initial(&header).expect("a network");
+        for _ in 0..200 {
+            let habits = Habits::any(rng);
+            let step = in_32_bits(next_step(rng, &state, &habits));
+            let accepted = state.step(step).is_ok();
+            assert_eq!(take_reached(&mut reached, step).is_ok(), accepted);
+            if rng.chance(1, 60) {
+                lay_up(rng, &mut reached.clone(), state.clone());
+            }
+        }
+        lay_up(rng, &mut reached, state);
+    });
 }
 
 /// A message that is made to raise a number of counts has that news, each from
@@ -176,12 +223,15 @@ fn news_of_receipts() {
 
 /// Bytes as a network, of its own and in lent bytes, by both.
 fn compare_bytes(bytes: &[u8]) {
-    let expected = area::rest(bytes).map_err(refusal_of);
+    let rest = area::rest(bytes);
+    let expected = rest.and_then(|rest| Ok((rest, area::receipts_to_rest(bytes)?)));
+    let expected = expected.map_err(refusal_of);
     let owned: Result<Network, Refusal> = bytes.try_into();
-    assert_eq!(owned.map(|network| network.is_quiescent()), expected);
+    let told = |network: &mut NetworkMut| (network.is_quiescent(), network.receipts_to_rest());
+    assert_eq!(owned.map(|mut network| told(&mut network.lend())), expected);
     let mut area = bytes.to_vec();
     let lent: Result<NetworkMut, Refusal> = area.as_mut_slice().try_into();
-    assert_eq!(lent.map(|network| network.is_quiescent()), expected);
+    assert_eq!(lent.map(|mut network| told(&mut network)), expected);
     assert!(area == bytes);
 }
 

@@ -1,7 +1,8 @@
-//! Setup, the steps and rest: the library's answers, records and areas against
-//! those of the independent implementation, byte for byte.
+//! Setup, the steps, rest and receipts to rest: the library's answers, records
+//! and areas against those of the independent implementation, byte for byte.
 
-use comparison::{cases, in_32_bits, library_step, rested, stepped, written};
+use comparison::{cases, compare_receipts_to_rest, in_32_bits, library_step};
+use comparison::{rested, stepped, to_rest, written};
 use melontime::raw;
 use reference::area;
 use reference::at_bounds::{bounds_left, by_hand, counts_at_the_ceiling, full_links, Bound};
@@ -39,7 +40,9 @@ fn compare_step(before: &[u8], step: Step) -> (u64, Vec<u8>) {
 
 /// All calls on bytes that may be no image.
 fn compare_calls(rng: &mut Rng, bytes: &[u8]) {
-    assert_eq!(raw::rest(bytes), rested(area::rest(bytes)));
+    let rest = raw::rest(bytes);
+    assert_eq!(rest, rested(area::rest(bytes)));
+    assert_eq!(compare_receipts_to_rest(bytes) == 2, rest == 2);
     for step in one_of_each(rng) {
         compare_step(bytes, step);
     }
@@ -150,6 +153,8 @@ fn run_on(
         area::write(&state, &mut image);
         assert!(bytes == image, "the area after {step:?}");
         assert_eq!(raw::rest(&bytes), rested(state.rest()));
+        let receipts = raw::receipts_to_rest(&bytes);
+        assert_eq!(receipts, to_rest(state.receipts_to_rest()));
         if rng.chance(1, 50) {
             let mut damaged = bytes.clone();
             damage(rng, &mut damaged);
@@ -434,6 +439,7 @@ fn any_well_formed_state() {
         let state = any_state(rng);
         let bytes = area::image(&state);
         assert_eq!(raw::rest(&bytes), rested(state.rest()));
+        assert!(compare_receipts_to_rest(&bytes) >= 1000);
         for _ in 0..40 {
             let step = match rng.below(4) {
                 0 => wild_step(rng),
@@ -572,6 +578,8 @@ fn each_byte_of_an_area() {
             bytes[at] ^= rng.range(1, 255) as u8;
             let expected = rested(area::rest(&bytes));
             assert_eq!(raw::rest(&bytes), expected, "byte {at}");
+            let receipts = to_rest(area::receipts_to_rest(&bytes));
+            assert_eq!(raw::receipts_to_rest(&bytes), receipts, "byte {at}");
             images += u32::from(expected != 2);
             bytes[at] = right;
         }

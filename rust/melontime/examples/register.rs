@@ -4,8 +4,10 @@
 //! stations pass their messages to each other over streams of their own; what
 //! the network's links hold tells them when one is theirs to take. Each does a
 //! fixed amount of work, more than its allowance of a phase, so that resets
-//! happen along the way, and counts the receipts that told it something. In the
-//! end the accepted records are written to an archive, which is read back,
+//! happen along the way, and counts the receipts that told it something. When
+//! the work of all is done the network is laid up: the host asks how many
+//! receipts that takes, and takes nothing but receipts until it is at rest. In
+//! the end the accepted records are written to an archive, which is read back,
 //! tested and questioned.
 //!
 //!     cargo run --release --offline -p melontime --example register
@@ -54,11 +56,12 @@ enum Request {
     Send(u32, u32),
     Recv(u32),
     Start,
-    /// The station's work is done, and every message for it has come; so many
-    /// of them told it something.
-    Finished(u32),
-    /// Whether all have finished and the network is quiescent.
+    /// The station's work is done: it only receives from here on.
+    Finished,
+    /// Whether the network is laid up.
     Over,
+    /// The last word of a station: so many receipts told it something.
+    Told(u32),
 }
 
 impl Request {
@@ -68,8 +71,9 @@ impl Request {
             Request::Send(peer, register) => (b's', peer, register),
             Request::Recv(peer) => (b'r', peer, 0),
             Request::Start => (b't', 0, 0),
-            Request::Finished(told) => (b'f', told, 0),
+            Request::Finished => (b'f', 0, 0),
             Request::Over => (b'o', 0, 0),
+            Request::Told(told) => (b'n', told, 0),
         };
         let mut bytes = [letter; 9];
         bytes[1..5].copy_from_slice(&a.to_le_bytes());
@@ -85,8 +89,9 @@ impl Request {
             b's' => Some(Request::Send(a, b)),
             b'r' => Some(Request::Recv(a)),
             b't' => Some(Request::Start),
-            b'f' => Some(Request::Finished(a)),
+            b'f' => Some(Request::Finished),
             b'o' => Some(Request::Over),
+            b'n' => Some(Request::Told(a)),
             _ => None,
         }
     }
@@ -159,31 +164,68 @@ struct Register {
     network: Reached,
     records: Vec<Record>,
     news: HashMap<u32, u8>,
+    /// Receipts that told the stations something.
+    told: u32,
     /// Stations that have finished.
     finished: u32,
-    /// Receipts that told these something.
-    told: u32,
+    /// How many receipts the laying up takes, asked when all have finished.
+    to_rest: Option<u64>,
+    /// How many were accepted since, and those of messages among them.
+    receipts: u64,
+    late_messages: u64,
 }
 
 impl Register {
-    fn answer(&mut self, station: u32, request: Request) -> Reply {
+    /// A step while some station still works. The network is not laid up yet.
+    fn step(&mut self, station: u32, request: Request) -> Result<Reply, StepRefusal> {
         let network = &mut self.network;
-        let reply = match request {
+        match request {
             Request::Enter(register) => network.enter(station, register).map(Reply::Entry),
             Request::Send(peer, register) => {
                 network.send(station, peer, register).map(Reply::Entry)
             }
             Request::Recv(peer) => network.recv(station, peer).map(Reply::of),
             Request::Start => network.start(station).map(Reply::Control),
-            Request::Finished(told) => {
-                self.finished += 1;
+            _ => Ok(Reply::Is(false)),
+        }
+    }
+
+    /// When all have finished nothing but receipts is taken, and each that is
+    /// accepted leaves one less to come.
+    fn lay_up(&mut self, station: u32, request: Request) -> Result<Reply, StepRefusal> {
+        let mut network = self.network.receipts_only();
+        let Request::Recv(peer) = request else {
+            let over = matches!(request, Request::Over) && network.is_at_rest();
+            return Ok(Reply::Is(over));
+        };
+        let left = network.left();
+        let outcome = network.recv(station, peer)?;
+        assert_eq!(network.left() + 1, left);
+        self.receipts += 1;
+        self.late_messages += u64::from(matches!(outcome, Outcome::Entry(_)));
+        Ok(Reply::of(outcome))
+    }
+
+    /// A station has finished. When it was the last, laying up begins.
+    fn finish(&mut self) {
+        self.finished += 1;
+        if self.finished == STATIONS {
+            self.to_rest = Some(self.network.receipts_to_rest());
+        }
+    }
+
+    fn answer(&mut self, station: u32, request: Request) -> Reply {
+        let reply = match request {
+            Request::Finished => {
+                self.finish();
+                Ok(Reply::Is(true))
+            }
+            Request::Told(told) => {
                 self.told += told;
                 Ok(Reply::Is(true))
             }
-            Request::Over => {
-                let over = self.finished == STATIONS && network.network().is_quiescent();
-                Ok(Reply::Is(over))
-            }
+            _ if self.to_rest.is_some() => self.lay_up(station, request),
+            _ => self.step(station, request),
         };
         match reply {
             Ok(Reply::Entry(record)) => self.records.push(record),
@@ -283,11 +325,16 @@ impl Station {
                 }
                 Ok(true)
             }
-            Reply::Refused(StepRefusal::UsedUp) => match self.ask(Request::Start)? {
-                Reply::Control(_) | Reply::Refused(StepRefusal::ModeForbids) => Ok(false),
-                _ => Err(io::ErrorKind::InvalidData.into()),
-            },
+            Reply::Refused(StepRefusal::UsedUp) => self.start().map(|()| false),
             Reply::Refused(StepRefusal::ModeForbids) => Ok(false),
+            _ => Err(io::ErrorKind::InvalidData.into()),
+        }
+    }
+
+    /// Starts a reset, where none is under way.
+    fn start(&mut self) -> io::Result<()> {
+        match self.ask(Request::Start)? {
+            Reply::Control(_) | Reply::Refused(StepRefusal::ModeForbids) => Ok(()),
             _ => Err(io::ErrorKind::InvalidData.into()),
         }
     }
@@ -306,6 +353,8 @@ impl Station {
                 work.push(Request::Enter(register()));
             }
         }
+        // The messages come last: some are to be under way when the work is done.
+        work.reverse();
         let expected = MESSAGES * self.peers.len() as u32;
         let mut work = work.into_iter().peekable();
         let mut finished = false;
@@ -317,10 +366,14 @@ impl Station {
                     work.next();
                     busy = true;
                 }
-            } else if !finished && self.received == expected {
-                self.ask(Request::Finished(self.told))?;
+            } else if !finished {
+                // The register is laid up in a new phase.
+                self.start()?;
+                self.ask(Request::Finished)?;
                 finished = true;
-            } else if finished && matches!(self.ask(Request::Over)?, Reply::Is(true)) {
+            } else if matches!(self.ask(Request::Over)?, Reply::Is(true)) {
+                assert_eq!(self.received, expected);
+                self.ask(Request::Told(self.told))?;
                 return Ok(());
             }
             if !busy {
@@ -340,8 +393,11 @@ fn keep_register(header: &Header) -> Result<Register, Box<dyn Error>> {
         network: Reached::setup(header)?,
         records: Vec::new(),
         news: HashMap::new(),
-        finished: 0,
         told: 0,
+        finished: 0,
+        to_rest: None,
+        receipts: 0,
+        late_messages: 0,
     }));
     let mut streams: HashMap<(u32, u32), UnixStream> = HashMap::new();
     for (i, j) in LINKS {
@@ -375,6 +431,8 @@ fn keep_register(header: &Header) -> Result<Register, Box<dyn Error>> {
     let network = register.network.network();
     assert!(network.is_quiescent());
     assert_eq!(network.header(), *header);
+    assert_eq!(register.to_rest, Some(register.receipts));
+    assert!(register.receipts > 0);
     Ok(register)
 }
 
@@ -464,6 +522,13 @@ fn main() -> Result<(), Box<dyn Error>> {
     println!(
         "{STATIONS} stations, {} records, {messages} messages, {phases} phases",
         records.len()
+    );
+
+    println!(
+        "{} receipts to rest when the work is done: {} are taken, {} of messages, and it is at rest",
+        register.to_rest.unwrap_or(0),
+        register.receipts,
+        register.late_messages
     );
 
     // The stations have counted the receipts that told them something.

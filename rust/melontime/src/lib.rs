@@ -13,7 +13,8 @@
 //! [`Archive`]. A refused call is an `Err` with its [`Refusal`], and changes
 //! nothing. A station is named by a `u32`, everywhere. A [`Reached`] network is
 //! one that comes from setup by steps alone; its steps have five causes to be
-//! refused, and no other.
+//! refused, and no other. [`ReceiptsOnly`] lays one up: it takes receipts alone,
+//! and tells how many there are still to come.
 //!
 //! # A network
 //!
@@ -81,7 +82,7 @@ mod refusal;
 pub use archive::{archive_bytes, Archive, Records};
 pub use blocks::{write_entries, EntriesBlock, Header};
 pub use network::{InMode, Mode, Network, NetworkMut, Outcome, Receipt};
-pub use reached::{Reached, StepRefusal};
+pub use reached::{Reached, ReceiptsOnly, StepRefusal};
 pub use record::{verdict, Kind, Record, Verdict};
 pub use refusal::Refusal;
 

@@ -399,6 +399,31 @@ impl<A: DerefMut<Target = [u8]>> Network<A> {
     pub fn is_quiescent(&self) -> bool {
         rest(&self.area).expect("the state is well formed")
     }
+
+    /// How many receipts, with receipts alone, bring the network to rest: the
+    /// messages under way and the control items that are still to be received,
+    /// also those that only later receipts put on a link.
+    ///
+    /// It is just that many accepted receipts, in whichever order they are
+    /// taken, where steps have led to the state from an initial network, as they
+    /// have of a [`Reached`](crate::Reached). On other bytes the number is
+    /// reckoned in the same way, and promises nothing.
+    ///
+    /// ```
+    /// use melontime::{Header, Network, Refusal};
+    ///
+    /// let mut network = Network::setup(&Header::new(2, 7).link(0, 1, 2)?)?;
+    /// assert_eq!(network.receipts_to_rest(), 0);
+    /// network.send(0, 1, 501)?;
+    /// assert_eq!(network.receipts_to_rest(), 1);
+    /// network.start(1)?; // a req and a done are to go either way
+    /// assert_eq!(network.receipts_to_rest(), 5);
+    /// # Ok::<(), Refusal>(())
+    /// ```
+    #[must_use]
+    pub fn receipts_to_rest(&self) -> u64 {
+        receipts_to_rest(&self.area).expect("the state is well formed")
+    }
 }
 
 impl<A> fmt::Debug for Network<A> {
@@ -431,6 +456,14 @@ fn rest(area: &[u8]) -> Result<bool, Refusal> {
         100 => Ok(true),
         101 => Ok(false),
         other => Err(refused("rest", other)),
+    }
+}
+
+/// How many receipts bring a state to rest; refused for bytes that are no state.
+fn receipts_to_rest(area: &[u8]) -> Result<u64, Refusal> {
+    match raw::receipts_to_rest(area) {
+        answer @ 1000.. => Ok(answer - 1000),
+        other => Err(refused("receipts_to_rest", other)),
     }
 }
 

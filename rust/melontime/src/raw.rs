@@ -60,6 +60,7 @@ mod library {
             station: u32,
         ) -> u64;
         pub fn melontime_rest(area: *const u8, area_length: usize) -> u64;
+        pub fn melontime_receipts_to_rest(area: *const u8, area_length: usize) -> u64;
         pub fn melontime_verdict(
             first: *const u8,
             first_length: usize,
@@ -192,6 +193,13 @@ pub fn start(area: &mut [u8], event: &mut [u8], station: u32) -> u64 {
 pub fn rest(area: &[u8]) -> u64 {
     // SAFETY: see the head of this module.
     unsafe { library::melontime_rest(area.as_ptr(), area.len()) }
+}
+
+/// After how many receipts, with receipts alone, the network is at rest.
+#[must_use]
+pub fn receipts_to_rest(area: &[u8]) -> u64 {
+    // SAFETY: see the head of this module.
+    unsafe { library::melontime_receipts_to_rest(area.as_ptr(), area.len()) }
 }
 
 /// The order of two records.

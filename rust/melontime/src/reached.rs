@@ -224,6 +224,90 @@ impl Reached {
         let after = self.network.start(station);
         after.map_err(|refusal| refused("start", refusal))
     }
+
+    /// How many receipts bring the network to rest where nothing else is done,
+    /// in whichever order they are taken: no order is longer or shorter.
+    #[must_use]
+    pub fn receipts_to_rest(&self) -> u64 {
+        self.network.receipts_to_rest()
+    }
+
+    /// Lends the network for receipts alone.
+    #[must_use]
+    pub fn receipts_only(&mut self) -> ReceiptsOnly<'_> {
+        ReceiptsOnly { reached: self }
+    }
+}
+
+/// A [`Reached`] network that is being laid up: nothing is entered, sent or
+/// started, and what is under way is received, in whichever order.
+///
+/// Each accepted receipt lowers [`left`](ReceiptsOnly::left) by one. While it is
+/// above 0 some receipt is possible; when it is 0 every link is empty and every
+/// station is normal, all in the phase that the furthest of them was aiming at.
+///
+/// ```
+/// use melontime::{Header, Reached, Refusal, StepRefusal};
+///
+/// // A message is under way, and a reset that station 1 has started.
+/// let mut reached = Reached::setup(&Header::new(2, 7).link(0, 1, 2)?)?;
+/// reached.send(0, 1, 501)?;
+/// reached.start(1)?;
+/// let mut other = reached.clone();
+///
+/// // Station 1 first receives all that it can.
+/// let mut laid_up = reached.receipts_only();
+/// assert_eq!(laid_up.left(), 5);
+/// laid_up.recv(1, 0)?; // the message
+/// assert_eq!(laid_up.recv(1, 0), Err(StepRefusal::EmptyLink));
+/// assert_eq!(laid_up.left(), 4);
+/// for (station, peer) in [(0, 1), (1, 0), (1, 0), (0, 1)] {
+///     assert!(!laid_up.is_at_rest());
+///     laid_up.recv(station, peer)?;
+/// }
+/// assert!(laid_up.left() == 0 && laid_up.is_at_rest());
+///
+/// // Station 0 goes first: another order, and as many receipts.
+/// let mut laid_up = other.receipts_only();
+/// for (left, (station, peer)) in (1..=5).rev().zip([(0, 1), (1, 0), (1, 0), (0, 1), (1, 0)]) {
+///     assert_eq!(laid_up.left(), left);
+///     laid_up.recv(station, peer)?;
+/// }
+/// assert!(laid_up.left() == 0 && laid_up.is_at_rest());
+///
+/// // Both are in phase 1 now, and may go on.
+/// assert_eq!(reached.send(0, 1, 502)?.phase(), 1);
+/// assert_eq!(other.send(1, 0, 502)?.phase(), 1);
+/// # Ok::<(), Refusal>(())
+/// ```
+#[derive(Debug)]
+pub struct ReceiptsOnly<'a> {
+    reached: &'a mut Reached,
+}
+
+impl ReceiptsOnly<'_> {
+    /// A station takes the first item of the link from a neighbour, as
+    /// [`Reached::recv`].
+    ///
+    /// # Errors
+    ///
+    /// [`StepRefusal::NoSuchStation`], also for a peer that is no neighbour;
+    /// [`StepRefusal::EmptyLink`].
+    pub fn recv(&mut self, station: u32, peer: u32) -> Result<Outcome, StepRefusal> {
+        self.reached.recv(station, peer)
+    }
+
+    /// How many accepted receipts are still to come.
+    #[must_use]
+    pub fn left(&self) -> u64 {
+        self.reached.receipts_to_rest()
+    }
+
+    /// Whether the network is at rest, as [`Network::is_quiescent`].
+    #[must_use]
+    pub fn is_at_rest(&self) -> bool {
+        self.reached.network.is_quiescent()
+    }
 }
 
 /// The cause of a step's refusal. It is a theorem of the library that a network

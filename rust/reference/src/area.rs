@@ -208,3 +208,9 @@ pub fn rest(area: &[u8]) -> Result<bool, Refusal> {
     let state = read(area)?;
     state.rest()
 }
+
+/// Receipts to rest on a lent area: 2, or the number of the state.
+pub fn receipts_to_rest(area: &[u8]) -> Result<u64, Refusal> {
+    let state = read(area)?;
+    state.receipts_to_rest()
+}

@@ -3,6 +3,7 @@
 //! of steps from an initial network meets it, so the states are made by hand.
 
 use crate::header::Header;
+use crate::network::steps::{self, recv, start};
 use crate::network::{Item, Message, Mode, State, Step, EXTRA_PLACES};
 use crate::refusal::Refusal;
 use crate::{LAST_PHASE, MAX_STATIONS};
@@ -102,23 +103,10 @@ fn case(what: &'static str, state: &State, step: Step, number: u8) -> Case {
 }
 
 fn enter(station: usize) -> Step {
-    Step::Enter {
-        station,
-        register: 5,
-    }
+    steps::enter(station, 5)
 }
 fn send(station: usize, peer: usize) -> Step {
-    Step::Send {
-        station,
-        peer,
-        register: 6,
-    }
-}
-fn recv(station: usize, peer: usize) -> Step {
-    Step::Recv { station, peer }
-}
-fn start(station: usize) -> Step {
-    Step::Start { station }
+    steps::send(station, peer, 6)
 }
 
 /// The ceiling of [`path`].

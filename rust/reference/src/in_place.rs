@@ -8,6 +8,7 @@ pub mod archives;
 mod formed;
 mod head;
 mod lanes;
+mod receipts;
 mod records;
 
 use self::formed::head_of;
@@ -22,6 +23,7 @@ use crate::record::{Kind, Record, NO_PEER, RECORD};
 use crate::refusal::Refusal;
 use crate::{Counts, LAST_PHASE, MAX_STATIONS};
 
+pub use self::receipts::receipts_to_rest;
 pub use self::records::verdict;
 
 const MESSAGE: u8 = 1;

@@ -7,8 +7,9 @@
 //! Names follow the standard terms of distributed systems: a *message* is the
 //! document's note, a *timestamp* its stamp, *happened-before* its recorded
 //! order, *begin reset* and the *reset rules* its begin and turning rules,
-//! *initial* its fresh, a *buffer* its lent area. The *news* of a receipt is how
-//! many of the other stations' counts the message raised.
+//! *initial* its fresh, a *buffer* its lent area, a *target* phase its aim, a
+//! *control item* a reset_req or reset_done. The *news* of a receipt is how many
+//! of the other stations' counts the message raised.
 //!
 //! | module | section of document 01 |
 //! |---|---|
@@ -16,7 +17,7 @@
 //! | [`check`], [`header`], [`entries`], [`record`] | 'Archive blocks'; document 02, CR 3 |
 //! | [`order`] | 'Plain network and recorded order', timestamp order and verdicts |
 //! | [`archive`] | 'Archive blocks', archives, readers and lists |
-//! | [`network`] | 'The network', 'What a station holds', 'The steps', 'State area and host'; document 02, CR 5, CR 7 and CR 9 |
+//! | [`network`] | 'The network', 'What a station holds', 'The steps', 'State area and host'; document 02, CR 5, CR 7, CR 9 and CR 12 |
 //! | [`area`], [`in_place`] | 'State area and host', with the layout of docs/LAYOUT.md |
 //! | [`causality`] | 'Plain network and recorded order', demand 3 |
 //! | [`turnover`] | 'turnover'; document 02, CR 1 and CR 7 |

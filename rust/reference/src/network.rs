@@ -1,5 +1,6 @@
 //! The network with resets: 'The network', 'What a station holds', 'The steps'
-//! and 'State area and host' in document 01; CR 5, CR 7 and CR 9 in document 02.
+//! and 'State area and host' in document 01; CR 5, CR 7, CR 9 and CR 12 in
+//! document 02.
 //!
 //! A state is a Rust value here and has no byte layout. All its fields are
 //! public, so that any state can be built, also one that no initial network
@@ -96,6 +97,12 @@ impl Station {
             done_seen: std::array::from_fn(|j| header.limit(i, j) > 0),
         }
     }
+
+    /// Its target phase: the phase that it aims at, which is its own, or one
+    /// more when it is mute.
+    pub fn target(&self) -> u32 {
+        self.phase + u32::from(self.mode == Mode::Mute)
+    }
 }
 
 /// The items under way, `links[i][j]` from i to j, the oldest first.
@@ -159,6 +166,35 @@ impl Step {
             | Step::Recv { station, .. }
             | Step::Start { station } => station,
         }
+    }
+}
+
+/// A step by its numbers, for lists of steps by hand.
+pub mod steps {
+    use super::Step;
+
+    /// enter i reg
+    pub fn enter(station: usize, register: u32) -> Step {
+        Step::Enter { station, register }
+    }
+
+    /// send i j reg
+    pub fn send(station: usize, peer: usize, register: u32) -> Step {
+        Step::Send {
+            station,
+            peer,
+            register,
+        }
+    }
+
+    /// recv i j
+    pub fn recv(station: usize, peer: usize) -> Step {
+        Step::Recv { station, peer }
+    }
+
+    /// start i
+    pub fn start(station: usize) -> Step {
+        Step::Start { station }
     }
 }
 
@@ -350,6 +386,46 @@ impl State {
         let all_normal = self.stations.iter().all(|s| s.mode == Mode::Normal);
         let one_phase = self.stations.iter().all(|s| s.phase == first);
         Ok(all_normal && one_phase && self.links_empty())
+    }
+
+    // ----- receipts to rest (CR 12) -----
+
+    /// The greatest target phase of the stations: the greatest aim.
+    pub fn greatest_target(&self) -> u32 {
+        let targets = self.stations.iter().map(Station::target);
+        targets.max().expect("a network has a station")
+    }
+
+    /// How many messages are under way.
+    pub fn messages_under_way(&self) -> u64 {
+        let items = self.links.iter().flatten().flatten();
+        items.filter(|i| matches!(i, Item::Message(_))).count() as u64
+    }
+
+    /// The control items that station i has received from its neighbour j, read
+    /// off its record: a reset_req for each of its resets and one where a req is
+    /// seen; a reset_done for each reset that it has begun but for the last, and
+    /// that of the last where the done is seen. Not below 0.
+    pub fn control_items_received(&self, i: usize, j: usize) -> u64 {
+        let station = &self.stations[i];
+        let reqs = u64::from(station.phase) + u64::from(station.req_seen[j]);
+        let dones = u64::from(station.target()) + u64::from(station.done_seen[j]);
+        (reqs + dones).saturating_sub(1)
+    }
+
+    /// After how many accepted receipts, with receipts alone, every link is
+    /// empty: the messages under way, and for each directed link twice the
+    /// greatest target less the control items received on it, not below 0. On a
+    /// state that no initial network reaches it is this number and no more. 2
+    /// for a state that is not well formed.
+    pub fn receipts_to_rest(&self) -> Result<u64, Refusal> {
+        if !self.is_well_formed() {
+            return Err(Refusal::IllFormedState);
+        }
+        let on_each_link = 2 * u64::from(self.greatest_target());
+        let to_come = |(i, j)| on_each_link.saturating_sub(self.control_items_received(i, j));
+        let pairs = (0..self.n()).flat_map(|i| self.header.neighbours(i).map(move |j| (i, j)));
+        Ok(self.messages_under_way() + pairs.map(to_come).sum::<u64>())
     }
 
     // ----- the steps ('The steps') -----

@@ -6,6 +6,7 @@ use reference::causality::{
 };
 use reference::generate::{self, NetworkWish, Shape};
 use reference::header::Header;
+use reference::network::steps::{self, recv, start};
 use reference::network::{Answer, Item, Message, Mode, State, Step};
 use reference::order::Verdict;
 use reference::random::Rng;
@@ -13,23 +14,10 @@ use reference::refusal::Refusal;
 use reference::{archive, LAST_PHASE};
 
 fn enter(station: usize) -> Step {
-    Step::Enter {
-        station,
-        register: 0,
-    }
+    steps::enter(station, 0)
 }
 fn send(station: usize, peer: usize) -> Step {
-    Step::Send {
-        station,
-        peer,
-        register: 0,
-    }
-}
-fn recv(station: usize, peer: usize) -> Step {
-    Step::Recv { station, peer }
-}
-fn start(station: usize) -> Step {
-    Step::Start { station }
+    steps::send(station, peer, 0)
 }
 
 #[test]

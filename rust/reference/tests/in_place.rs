@@ -11,6 +11,7 @@ use reference::header::Header;
 use reference::network::{State, Step, AREA};
 use reference::random::Rng;
 use reference::record::Record;
+use reference::refusal::Refusal;
 use reference::{archive, area, in_place, order};
 
 const EVENT: [u8; 32] = [0xa5; 32];
@@ -28,6 +29,13 @@ fn both(before: &[u8], step: Step) -> Vec<u8> {
     plain
 }
 
+/// Receipts to rest in both ways.
+fn both_receipts(bytes: &[u8]) -> Result<u64, Refusal> {
+    let receipts = area::receipts_to_rest(bytes);
+    assert_eq!(in_place::receipts_to_rest(bytes), receipts);
+    receipts
+}
+
 #[test]
 fn an_image_is_read_back() {
     for seed in 0..200 {
@@ -36,6 +44,7 @@ fn an_image_is_read_back() {
         assert_eq!(area::read(&image).as_ref(), Ok(&state));
         assert_eq!(in_place::test(&image), Ok(state.header));
         assert_eq!(in_place::rest(&image), state.rest());
+        assert_eq!(both_receipts(&image), state.receipts_to_rest());
     }
 }
 
@@ -59,6 +68,7 @@ fn what_is_read_is_its_own_image() {
             in_place::test(&bytes),
             read.as_ref().map(|state| state.header).map_err(|&r| r)
         );
+        assert_eq!(both_receipts(&bytes).is_ok(), read.is_ok());
         if let Ok(state) = read {
             assert!(area::image(&state) == bytes, "seed {seed}");
             images += 1;
@@ -131,6 +141,7 @@ fn an_area_of_another_length_is_refused() {
         let mut bytes = bytes[..length].to_vec();
         both(&bytes, Step::Start { station: 0 });
         assert_eq!(in_place::rest(&bytes), area::rest(&bytes));
+        assert_eq!(both_receipts(&bytes).is_ok(), length == AREA);
         let block = any_network(&mut Rng::new(1)).to_block_untested();
         let expected = area::setup(&block, &mut bytes);
         assert_eq!(in_place::setup(&block, &mut bytes), expected);
@@ -157,6 +168,7 @@ fn steps_in_both_ways() {
                 _ => next_step(&mut rng, &state, &habits),
             };
             bytes = both(&bytes, step);
+            assert!(both_receipts(&bytes).is_ok());
         }
     }
 }

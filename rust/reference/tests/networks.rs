@@ -7,28 +7,12 @@ use std::hash::{BuildHasher, RandomState};
 use reference::at_bounds::{self, bounds_left, counts_at_the_ceiling, full_links, Bound};
 use reference::generate::{self, every_step, Habits, NetworkWish, Shape, StateDamage};
 use reference::header::Header;
+use reference::network::steps::{enter, recv, send, start};
 use reference::network::{Answer, Item, Message, Mode, Outcome, State, Step};
 use reference::random::Rng;
 use reference::record::{Kind, Record, NO_PEER};
 use reference::refusal::Refusal;
 use reference::{LAST_PHASE, MAX_STATIONS};
-
-fn enter(station: usize, register: u32) -> Step {
-    Step::Enter { station, register }
-}
-fn send(station: usize, peer: usize, register: u32) -> Step {
-    Step::Send {
-        station,
-        peer,
-        register,
-    }
-}
-fn recv(station: usize, peer: usize) -> Step {
-    Step::Recv { station, peer }
-}
-fn start(station: usize) -> Step {
-    Step::Start { station }
-}
 
 /// A refusal's number, 0 for an accepted step.
 fn number(outcome: Outcome) -> u8 {
@@ -666,6 +650,7 @@ fn ill_formed_states() {
             let step = generate::wild_step(&mut rng);
             assert_eq!(try_step(&mut state, step), 2, "{way:?}");
             assert_eq!(state.rest(), Err(Refusal::IllFormedState));
+            assert_eq!(state.receipts_to_rest(), Err(Refusal::IllFormedState));
         }
     }
 }

@@ -4,6 +4,7 @@
 use reference::causality::{accepted_entries, happened_before, Entry, Relation, Run};
 use reference::generate::{self, Habits, NetworkWish, Shape, Traffic};
 use reference::header::Header;
+use reference::network::steps::{self, recv};
 use reference::network::{Answer, Item, Message, Mode, Outcome, State, Step};
 use reference::random::Rng;
 use reference::record::Kind;
@@ -11,20 +12,10 @@ use reference::refusal::Refusal;
 use reference::{area, in_place, Counts, MAX_STATIONS};
 
 fn enter(station: usize) -> Step {
-    Step::Enter {
-        station,
-        register: 1,
-    }
+    steps::enter(station, 1)
 }
 fn send(station: usize, peer: usize) -> Step {
-    Step::Send {
-        station,
-        peer,
-        register: 2,
-    }
-}
-fn recv(station: usize, peer: usize) -> Step {
-    Step::Recv { station, peer }
+    steps::send(station, peer, 2)
 }
 
 /// The initial network of these pairs of neighbours, with room for some sends

@@ -287,6 +287,14 @@ pub fn run_of(rng: &mut Rng, header: &Header, length: usize) -> Run {
     run_from(rng, state, length)
 }
 
+/// The receipts from links that hold an item, by station and then by peer.
+pub fn receipts_waiting(state: &State) -> Vec<Step> {
+    let pairs = (0..MAX_STATIONS).flat_map(|i| (0..MAX_STATIONS).map(move |j| (i, j)));
+    let holds = |&(i, j): &(usize, usize)| !state.links[j][i].is_empty();
+    let recv = |(station, peer)| Step::Recv { station, peer };
+    pairs.filter(holds).map(recv).collect()
+}
+
 /// Receipts alone, in random order, until every link is empty; answers how
 /// many there were. Gives up after `most`.
 pub fn drain(rng: &mut Rng, run: &mut Run, most: usize) -> Option<usize> {
@@ -294,15 +302,8 @@ pub fn drain(rng: &mut Rng, run: &mut Run, most: usize) -> Option<usize> {
         if run.last.links_empty() {
             return Some(receipts);
         }
-        let waiting: Vec<(usize, usize)> = (0..MAX_STATIONS)
-            .flat_map(|i| (0..MAX_STATIONS).map(move |j| (i, j)))
-            .filter(|&(i, j)| !run.last.links[i][j].is_empty())
-            .collect();
-        let (j, i) = rng.pick(&waiting);
-        let _ = run.push(Step::Recv {
-            station: i,
-            peer: j,
-        });
+        let step = rng.pick(&receipts_waiting(&run.last));
+        let _ = run.push(step);
     }
     None
 }

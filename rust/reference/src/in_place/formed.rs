@@ -11,7 +11,8 @@ use crate::{Counts, LAST_PHASE, MAX_STATIONS};
 /// The top bit of each of eight bytes.
 const TOPS: u64 = 0x80 * ONES;
 
-fn word(bytes: &[u8; STATION], at: usize) -> u64 {
+/// Eight bytes of a station.
+pub(super) fn word(bytes: &[u8; STATION], at: usize) -> u64 {
     u64::from_le_bytes(*bytes[at..].first_chunk().expect("a word"))
 }
 
