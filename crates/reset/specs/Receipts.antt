@@ -1,5 +1,5 @@
--- How long a quiet network takes (document 02, CR 12): how many receipts empty the links, and that it is so many in whichever order. It holds:
--- `exact-receipts` in proofs/ExactReceipts. Assumes nothing.
+-- How long a quiet network takes (document 02, CR 12): how many receipts empty the links, and that it is so many in whichever order. Both statements hold:
+-- `exact-receipts` in proofs/ExactReceipts, `controls-told` in proofs/Taken. Assumes nothing.
 use Prim.Native.Nat.{ℕ, suc, _+_, _*_, _-_, _≤_, _<_}
 use mathlib.Core.Path.{_≡_}
 use mathlib.Core.Logic.{_↔_}
@@ -48,10 +48,11 @@ underWay s = sum 8 (λ (i : ℕ). sum 8 (λ (j : ℕ). messages (linkAt s i j)))
 abbrev pub reqsTaken : {K : Clock} → Station K → ℕ → ℕ
 reqsTaken x j = x .phase + bit (reqSeen x j)
 
--- reset_done, plus one: one for each phase up to its target, the last of them where it is seen, and phase 0 needs none
+-- reset_done, and one for phase 0 that nobody sends: one for each phase before its target, and the target's where it is seen
 abbrev pub donesTaken : {K : Clock} → Station K → ℕ → ℕ
 donesTaken x j = target x + bit (doneSeen x j)
 
+-- both, without that one
 abbrev pub controlsTaken : {K : Clock} → Station K → ℕ → ℕ
 controlsTaken x j = reqsTaken x j + donesTaken x j - 1
 
