@@ -30,7 +30,7 @@ use Rattle.station.proofs.Laws as station
 use Rattle.link.specs.Image.{Queue, imageLink, parseLink, linkTest}
 use Rattle.link.proofs.Laws as link
 use Rattle.area.specs.Layout.{linkNumber, image, stationBytes, linkBytes, configAt, stateAt, stationTestAt, stationsTest, linkTestAt, linksTest, partsTest, test, Imaged}
-use Rattle.area.proofs.Parts.{image-length, read-header, read-station, read-link, read-rest}
+use Rattle.area.proofs.Parts.{link-long, image-length, read-header, read-station, read-link, read-rest}
 
 -- ---- the test, part by part
 pub record Tested (a : List ℕ) : Type 0 where
@@ -82,7 +82,7 @@ module _ (a : List ℕ) (b : AreBytes a) (w : test a ≡ true) where
   long : length a ≡ 65536
   long = tested a w .long
 
-  config-made : wellMade (configAt a) ≡ true
+  pub config-made : wellMade (configAt a) ≡ true
   unfolding configAt
   config-made = accepted-well-made (take 512 a) (bytes-take 512 a b) (tested a w .head)
 
@@ -97,10 +97,6 @@ module _ (a : List ℕ) (b : AreBytes a) (w : test a ≡ true) where
   link-bytes : (k : ℕ) → AreBytes (linkBytes a k)
   unfolding linkBytes
   link-bytes k = bytes-take 715 (drop (888 + k * 715) a) (bytes-drop (888 + k * 715) a b)
-
-  link-long : (k : ℕ) → k < 64 → length (linkBytes a k) ≡ 715
-  unfolding linkBytes
-  link-long k l = let n = long in simp (length-take, length-drop) (omega arith)
 
   station-parts : (i : ℕ) → i < 8 → (stationBytesFit (stationBytes a i) ≡ true) × (stationFits (configAt a) i (parseStation (stationBytes a i)) ≡ true)
   unfolding stationTest
@@ -118,7 +114,7 @@ module _ (a : List ℕ) (b : AreBytes a) (w : test a ≡ true) where
   unfolding linkBytes
   link-image k l =
       rw (link-read a (k / 8) (k % 8) (omega arith) (omega arith), number k)
-      (link.link-image-parse (configAt a) (k / 8) (k % 8) (linkBytes a k) (link-bytes k) (tested a w .link k l) (link-long k l) (link.places-most (configAt a) config-made (k / 8) (k % 8)))
+      (link.link-image-parse (configAt a) (k / 8) (k % 8) (linkBytes a k) (link-bytes k) (tested a w .link k l) (link-long a long k l) (link.places-most (configAt a) config-made (k / 8) (k % 8)))
 
   pub formed : image (configAt a) (stateAt a) ≡ a
   unfolding image configAt

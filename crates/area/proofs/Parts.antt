@@ -5,7 +5,7 @@ use mathlib.Core.Logic.{_≢_}
 use mathlib.Core.List.{List, [], _++_, append-assoc}
 use native.Mathlib.Omega.{arith}
 use native.Mathlib.Decide.{ℕ-discrete}
-use lib.ListN.{length, take, drop, set, length-append}
+use lib.ListN.{length, take, drop, set, length-append, length-take, length-drop}
 use lib.Seq.{take-at, drop-at}
 use Rattle.codec.specs.Rows.{rows, upto}
 use Rattle.codec.specs.Splice.{splice}
@@ -24,6 +24,11 @@ use Rattle.station.proofs.Laws as station
 use Rattle.link.specs.Image.{Queue, imageLink}
 use Rattle.link.proofs.Laws as link
 use Rattle.area.specs.Layout.{linkNumber, image, stationBytes, linkBytes}
+
+-- a link's bytes in an area of any state
+pub link-long : (a : List ℕ) → length a ≡ 65536 → (k : ℕ) → k < 64 → length (linkBytes a k) ≡ 715
+unfolding linkBytes
+link-long a n k l = simp (length-take, length-drop) (omega arith)
 
 module _ (c : Config) (s : State vector) where
   head : List ℕ

@@ -14,6 +14,7 @@ use Rattle.reset.specs.Config.{Config, places}
 use Rattle.link.specs.Image.{itemsTest, linkTest, sized}
 use Rattle.link.proofs.Laws.{link-parts, link-idle, items-few}
 use Rattle.area.specs.Layout.{linkBytes, linkTestAt, linksTest}
+use Rattle.area.proofs.Parts.{link-long}
 
 -- ---- runs of zeros
 -- a run in two parts
@@ -32,10 +33,6 @@ pub read-none : (c : Config) (a : List ℕ) → Read c a 0 888
 read-none c a = (omega arith, every-none (linkTestAt c a) ∙ sym (eq-eqb (total []) 0 (zeros-total 0)))
 
 module _ (c : Config) (a : List ℕ) (long : length a ≡ 65536) where
-  link-long : (k : ℕ) → k < 64 → length (linkBytes a k) ≡ 715
-  unfolding linkBytes
-  link-long k h = simp (length-take, length-drop) (omega arith)
-
   link-count : (k : ℕ) → getD (linkBytes a k) 0 0 ≡ getD a (888 + k * 715) 0
   unfolding linkBytes
   link-count k = let e : 888 + k * 715 + 0 ≡ 888 + k * 715 = omega arith in getD-take 715 (drop (888 + k * 715) a) 0 0 (omega arith) ∙ getD-drop (888 + k * 715) a 0 0 ∙ ap (λ (i : ℕ). getD a i 0) e
@@ -47,7 +44,7 @@ module _ (c : Config) (a : List ℕ) (long : length a ≡ 65536) where
       let o : ℕ = 888 + k * 715 in
       let m : 888 + (k + 1) * 715 - from ≡ o - from + 715 = omega (arith, r .0) in
       let f : from + (o - from) ≡ o = omega (arith, r .0) in
-      let i : linkTest c (k / 8) (k % 8) (linkBytes a k) ≡ allZero (linkBytes a k) = link-idle c (k / 8) (k % 8) (linkBytes a k) (omega (arith, link-long k h)) (link-count k ∙ e) in
+      let i : linkTest c (k / 8) (k % 8) (linkBytes a k) ≡ allZero (linkBytes a k) = link-idle c (k / 8) (k % 8) (linkBytes a k) (omega (arith, link-long a long k h)) (link-count k ∙ e) in
       (omega (arith, r .0), every-turn k (linkTestAt c a) ∙ rw (r .1, i, m, run-split a from (o - from) 715, f))
 
   -- what stands behind its items

@@ -5,17 +5,18 @@ use mathlib.Core.List.{List, [], _∷_}
 use mathlib.Core.Bool.{Bool, true, false, not, cond, _&&_}
 use native.Mathlib.Omega.{arith}
 use native.Mathlib.Nat.{add-zero}
-use lib.Dec.{eqb, leb}
-use lib.ListN.{length, getD, take, drop, length-take, length-drop}
+use lib.Dec.{eqb}
+use lib.ListN.{length, getD, take, drop}
 use lib.Seq.{getD-drop, getD-take}
-use borrow.Author.Tests.{leb-true, eq-eqb, ne-eqb}
+use borrow.Author.Tests.{eq-eqb, ne-eqb}
+use Rattle.codec.specs.Num.{AreBytes}
 use Rattle.codec.specs.Rows.{upto}
 use Rattle.codec.specs.Every.{sum, greatest}
-use Rattle.codec.proofs.EveryLaws.{both, every-at, sum-none}
+use Rattle.codec.proofs.EveryLaws.{both, sum-none}
 use Rattle.codec.proofs.SumLaws.{sum-same, sum-rows}
-use Rattle.header.specs.Header.{parseHeader, headerFits}
+use Rattle.header.specs.Header.{parseHeader}
 use Rattle.header.specs.declared.Header.{Header}
-use Rattle.header.proofs.Laws.{header-small, well-made-parts, table-at, limits-bytes}
+use Rattle.header.proofs.Laws.{header-small, table-at}
 use Rattle.reset.specs.Reach.{limit, linked}
 use Rattle.reset.specs.Config.{neighbours, places}
 use Rattle.reset.specs.Clock.{vector}
@@ -29,10 +30,10 @@ use Rattle.station.specs.View.{stationView}
 use Rattle.station.specs.declared.Station.{Station as CodeStation}
 use Rattle.station.proofs.Laws.{test-parts}
 use Rattle.link.specs.Image.{itemOf, parseItem, itemAt, parseLink, linkTest, itemsTest, sized}
-use Rattle.link.proofs.Laws.{items-few}
+use Rattle.link.proofs.Laws.{items-few, places-most}
 use Rattle.queue.specs.Queue.{parseQueue}
 use Rattle.area.specs.Layout.{stationBytes, linkBytes, configAt, stateAt, test}
-use Rattle.area.proofs.Exact.{tested, station-read, link-read}
+use Rattle.area.proofs.Exact.{tested, station-read, link-read, config-made}
 
 -- ---- messages
 messages-upto : (n : ℕ) (f : ℕ → Item vector) → messages (upto n f) ≡ sum n (λ (k : ℕ). messages (f k ∷ []))
@@ -41,17 +42,17 @@ messages-upto zero f = refl
 messages-upto (suc n) f = messages-append (upto n f) (f n ∷ []) ∙ ap (λ (k : ℕ). k + messages (f n ∷ [])) (messages-upto n f)
 
 -- 1 where the item in place k is a message, else 0
-abbrev pub told : List ℕ → ℕ → ℕ
-told l k = messages (itemAt l k ∷ [])
+abbrev pub messagesAt : List ℕ → ℕ → ℕ
+messagesAt l k = messages (itemAt l k ∷ [])
 
-pub messages-are : (l : List ℕ) → messages (parseLink l) ≡ sum (getD l 0 0) (told l)
+pub messages-are : (l : List ℕ) → messages (parseLink l) ≡ sum (getD l 0 0) (messagesAt l)
 unfolding parseLink parseQueue itemAt
 messages-are l = messages-upto (getD l 0 0) _
 
 -- by its kind
-pub told-is : (l : List ℕ) (k : ℕ) → told l k ≡ bit (not (eqb (getD l (1 + k * 21) 0) 2) && not (eqb (getD l (1 + k * 21) 0) 3))
+pub messages-at-is : (l : List ℕ) (k : ℕ) → messagesAt l k ≡ bit (not (eqb (getD l (1 + k * 21) 0) 2) && not (eqb (getD l (1 + k * 21) 0) 3))
 unfolding itemAt parseItem itemOf
-told-is l k = rw (getD-take 21 (drop (1 + k * 21) l) 0 0 (omega arith), getD-drop, add-zero (1 + k * 21)) (go (eqb (getD l (1 + k * 21) 0) 2) (eqb (getD l (1 + k * 21) 0) 3) _ _)
+messages-at-is l k = rw (getD-take 21 (drop (1 + k * 21) l) 0 0 (omega arith), getD-drop, add-zero (1 + k * 21)) (go (eqb (getD l (1 + k * 21) 0) 2) (eqb (getD l (1 + k * 21) 0) 3) _ _)
   where
     go : (p q : Bool) (v : List ℕ) (g : ℕ) → messages {K = vector} (cond p resetReq (cond q resetDone (message v g)) ∷ []) ≡ bit (not p && not q)
     go true q v g = refl
@@ -64,7 +65,7 @@ onLink a k = messages (parseLink (linkBytes a k))
 
 -- none where it holds no item
 pub none-on : (a : List ℕ) (k : ℕ) → getD (linkBytes a k) 0 0 ≡ 0 → onLink a k ≡ 0
-none-on a k e = messages-are (linkBytes a k) ∙ (ap (λ (n : ℕ). sum n (told (linkBytes a k))) e ∙ sum-none (told (linkBytes a k)))
+none-on a k e = messages-are (linkBytes a k) ∙ (ap (λ (n : ℕ). sum n (messagesAt (linkBytes a k))) e ∙ sum-none (messagesAt (linkBytes a k)))
 
 pub under-way : (a : List ℕ) → underWay (stateAt a) ≡ sum 64 (onLink a)
 unfolding underWay
@@ -91,34 +92,11 @@ module _ (a : List ℕ) (w : test a ≡ true) where
   unfolding neighbours linked
   neighbours-at i j il jl = rw (limit-at i j il jl)
 
-  limit-most : (k : ℕ) → k < 64 → getD (take 512 a) (32 + k) 0 ≤ 32
-  unfolding headerFits
-  limit-most k l =
-      let h = parseHeader (take 512 a) in
-      let p = both (leb 1 (h .n)) _ (well-made-parts (take 512 a) (tested a w .head) .5) in
-      let q = both (leb (h .n) 8) _ (p .1) in
-      let m = both (leb 1 (h .t)) _ (q .1) in
-      leb-true _ 32 (every-at 64 (λ (k : ℕ). leb (getD (take 512 a) (32 + k) 0) 32) k (rw (limits-bytes (take 512 a) 32) at (m .1)) l)
-
-  places-most : (k : ℕ) → k < 64 → places (configAt a) (k / 8) (k % 8) ≤ 34
-  unfolding places neighbours linked
-  places-most k l =
-      let e : 32 + (k / 8 * 8 + k % 8) ≡ 32 + k = omega arith in
-      let m : limit (configAt a .limits) (k / 8) (k % 8) ≤ 32 = rw (limit-at (k / 8) (k % 8) (omega arith) (omega arith), e, ← getD-take 512 a (32 + k) 0 (omega arith)) (limit-most k l) in
-      go (eqb (limit (configAt a .limits) (k / 8) (k % 8)) 0) m
-    where
-      go : (b : Bool) → limit (configAt a .limits) (k / 8) (k % 8) ≤ 32 → cond (not b) (limit (configAt a .limits) (k / 8) (k % 8) + 2) 0 ≤ 34
-      go true m = omega arith
-      go false m = omega arith
-
-  pub link-long : (k : ℕ) → k < 64 → length (linkBytes a k) ≡ 715
-  unfolding linkBytes
-  link-long k l = let n = long in simp (length-take, length-drop) (omega arith)
-
-  pub count-most : (k : ℕ) → k < 64 → getD (linkBytes a k) 0 0 ≤ 34
+  pub count-most : AreBytes a → (k : ℕ) → k < 64 → getD (linkBytes a k) 0 0 ≤ 34
   unfolding linkTest
-  count-most k l =
-      omega (arith, places-most k l, items-few (places (configAt a) (k / 8) (k % 8)) (configAt a) (linkBytes a k) (both (itemsTest (places (configAt a) (k / 8) (k % 8)) (configAt a) (linkBytes a k)) _ (tested a w .link k l) .0))
+  count-most b k l =
+      let m : ℕ = places (configAt a) (k / 8) (k % 8) in
+      omega (arith, places-most (configAt a) (config-made a b w) (k / 8) (k % 8), items-few m (configAt a) (linkBytes a k) (both (itemsTest m (configAt a) (linkBytes a k)) _ (tested a w .link k l) .0))
 
   -- a station as it is read
   module _ (j : ℕ) (jl : j < 8) (x : CodeStation) (e : stationView x ≡ parseStation (stationBytes a j)) where

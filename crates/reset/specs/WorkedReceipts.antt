@@ -18,7 +18,7 @@ unfoldable pub toRest : Config → State vector → ℕ
 unfolding sum greatest formed linesFrom greatestTarget underWay receiptsToRest
 toRest c s = receiptsToRest c s
 
--- the number after each of a list of steps from the initial network
+-- the number after each of a list of steps, from a state and from the initial one
 abbrev afterEach : Config → State vector → List Step → List ℕ
 afterEach c s [] = []
 afterEach c s (p ∷ ps) = toRest c (step c s p .after) ∷ afterEach c (step c s p .after) ps
@@ -43,7 +43,7 @@ unfolding toRest
 numbers-worked = record { of-listing = refl; both-start = refl; next-begun = refl; of-triangle = refl; of-lone = refl }
 
 -- ---- orders
--- how many of a list of receipts are accepted after a list of steps, whether the network is then quiescent, and the mode and phase of station 0
+-- after a list of steps the number is k; of a list of receipts from there k are accepted, and the network is then quiescent, with station 0 in phase p
 abbrev pub Ends : Config → List Step → List Step → ℕ → ℕ → Type 0
 Ends c ps qs k p =
     (toRest c (run c (initial vector c) ps) ≡ k)

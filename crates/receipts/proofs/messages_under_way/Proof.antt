@@ -1,12 +1,15 @@
 use Prim.Native.Nat.{ℕ, _+_, _*_, _-_, _≤_}
 use mathlib.Core.Path.{_≡_, refl, _∙_, sym, ap}
 use mathlib.Core.Logic.{⊎-elim}
+use mathlib.Core.List.{List}
 use native.Mathlib.Omega.{arith}
 use denote.Ref.{now}
+use Rattle.codec.specs.Num.{AreBytes}
 use Rattle.codec.specs.Every.{sum}
 use Rattle.codec.proofs.EveryLaws.{sum-none, sum-more}
+use Rattle.area.proofs.Parts.{link-long}
 use Rattle.area_edit.proofs.PartLaws.{link-part, count-byte}
-use Rattle.receipts.proofs.Laws.{onLink, none-on, under-way, long, link-long, count-most}
+use Rattle.receipts.proofs.Laws.{onLink, none-on, under-way, long, count-most}
 use Rattle.receipts.proofs.messages_under_way.Statement.{statement}
 use Rattle.receipts.proofs.messages_under_way.Tie as tie
 
@@ -20,7 +23,9 @@ messages-on-requires : tie.Need-messages-on-requires Inv-loop μ-loop
 messages-on-requires c κs =
     let s = c .before .before .before .before .before .before in
     let k = c .before .before .before .before .loop .k in
-    rw (link-part (now (s .args .area)) k refl) (link-long (now (s .args .area)) (s .pre) k (omega arith), count-most (now (s .args .area)) (s .pre) k (omega arith))
+    let a : List ℕ = now (s .args .area) in
+    let bytes : AreBytes a = λ i. omega (arith, c .before .before .shared-slice-known2 .given i) in
+    rw (link-part a k refl) (link-long a (long a (s .pre)) k (omega arith), count-most a (s .pre) bytes k (omega arith))
 
 loop-again : tie.Need-loop-again Inv-loop μ-loop
 loop-again c =
