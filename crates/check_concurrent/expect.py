@@ -89,6 +89,7 @@ def lister(rs, at, r, places):
     if rs is None or r >= len(rs):
         return say(f"refused {1 if rs is None else 12}, left 1000\n")
     found = [k for k, x in enumerate(rs) if x["phase"] == rs[r]["phase"] and verdict(rs[r], x) == "unordered"]
+    found.sort(key=lambda k: (rs[k]["station"], rs[k]["counts"][rs[k]["station"]], k))
     if len(found) > places:
         return say("refused 11, left 1000\n")
     say(f"count {len(found)}" + "".join(f" {k}" for k in found) + f", left {1000 - len(found)}\n")
@@ -164,6 +165,17 @@ for b, p, x in cases:
     say(f"  block {b}, byte {p} set to {x}")
     c = a[512 * b:512 * b + p] + bytes([x]) + a[512 * b + p + 1:512 * b + 512]
     total(a[:512 * b] + seal(c) + a[512 * b + 512:])
+
+line("ill kept")
+# record 30 below records 6 and 15 of its station, then equal to record 6; record 15 equal to record 6
+for b, p, x in ((3, 44, 1), (3, 44, 3), (2, 17, 6)):
+    tell("10 31")
+    tell(f"12|  block {b}, byte {p} set to {x}")
+    say(f"  block {b}, byte {p} set to {x}")
+    kept = a[:512 * b] + seal(a[512 * b:512 * b + p] + bytes([x]) + a[512 * b + p + 1:512 * b + 512]) + a[512 * b + 512:]
+    total(kept)
+    for r in range(0, 31, 3):
+        lister(read(kept), "0 2048", r, 1000)
 tell("10 31")
 short = a[:1024] + entries(2, range(15, 29)) + a[1536:]
 wrong = a[:2046] + bytes([(a[2046] + 1) % 256]) + a[2047:]

@@ -1,33 +1,29 @@
 -- Concurrent records of an archive: the relation, its lists, and the verdict by numbers. Assumes nothing.
-use Prim.Native.Nat.{ℕ, min, _+_, _*_, _-_, _/_, _%_, _≤_, _<_}
+use Prim.Native.Nat.{ℕ, _≤_, _<_}
 use mathlib.Core.Path.{_≡_, refl, _∙_, sym, ap}
 use mathlib.Core.Logic.{_↔_}
 use mathlib.Core.List.{List, List·Memᴰ}
 use mathlib.Core.Bool.{Bool, true, false, _&&_, cond, and-false, true≢false}
 use native.Mathlib.Omega.{arith}
 use lib.Dec.{eqb, ltb}
-use lib.ListN.{length, getD, take, drop, length-take, length-drop}
-use borrow.Author.Tests.{eqb-true, eqb-false, ltb-true, ltb-false, lt-ltb, eq-eqb, ne-eqb}
+use lib.ListN.{length, getD}
+use borrow.Author.Tests.{eqb-true, eqb-false, ltb-true, ltb-false, lt-ltb, le-ltb, eq-eqb, ne-eqb}
 use Rattle.codec.proofs.EveryLaws.{both, every-of}
 use Rattle.clock.specs.Timestamp.{Less}
 use Rattle.clock.specs.Order.{sameAt, sameCounts, verdictOf, mirror}
 use Rattle.clock.specs.declared.Verdict.{Verdict}
 use Rattle.clock.specs.declared.Verdict.the-variants.{Before, After, Same, Unordered}
 use Rattle.clock.proofs.OrderLaws.{verdict-mirror, verdict-unordered}
-use Rattle.record.specs.Record.{parseRecord}
 use Rattle.record.specs.declared.Record.{Record}
-use Rattle.entries.specs.Entries.{countOf, recordOf}
-use Rattle.archive.specs.Archive.{blockOf, blocks, archiveTest, records, recordAt, findRecord, foundRecord}
+use Rattle.archive.specs.Archive.{archiveTest, records, recordAt, findRecord, foundRecord}
 use Rattle.verdict.specs.Compare.{verdictOn, verdictOfBytes}
 use Rattle.verdict.specs.declared.Compared.the-variants.{Ordered, Refused}
-use Rattle.codec.specs.Every.{countBelow}
-use Rattle.codec.proofs.CountLaws.{count-room}
-use Rattle.concurrent.specs.Unordered.{eventAt, isUnorderedVerdict, concurrent, isUnordered, unorderedCount, unorderedAnswer, Lists}
+use Rattle.events.specs.Events.{eventAt}
+use Rattle.concurrent.specs.Unordered.{isUnorderedVerdict, concurrent, hasConcurrent, isUnordered, unorderedCount, listAnswer, unorderedAnswer, Lists}
 use Rattle.concurrent.specs.ByNumber.{orderOf}
 use Rattle.archive.specs.declared.Counted.the-variants.{Count}
 use Rattle.archive.specs.declared.Counted.the-variants as listed
-use Rattle.archive.proofs.Tested.{records-most, block-numbers, record-place, record-well-made}
-use Rattle.concurrent.proofs.Below.{passing, passing-length, passing-members, passing-once, Filled}
+use Rattle.archive.proofs.Tested.{record-well-made}
 
 -- ---- two events
 unordered-verdict : (v : Verdict) → isUnorderedVerdict v ≡ true → v ≡ Unordered
@@ -76,43 +72,21 @@ concurrent-means x y n m =
     )
 
 -- ---- two records of an archive
-pub unordered-below : (a : List ℕ) (r k : ℕ) → isUnordered a r k ≡ true → k < records a
-unfolding isUnordered
-unordered-below a r k h = ltb-true _ _ (both (ltb k (records a)) _ h .0)
+pub has-is : (a : List ℕ) (x : Record) (k : ℕ) → k < records a → hasConcurrent a x k ≡ concurrent x (eventAt a k)
+unfolding hasConcurrent
+has-is a x k l = rw (lt-ltb _ _ l)
+
+pub has-below : (a : List ℕ) (x : Record) (k : ℕ) → hasConcurrent a x k ≡ true → k < records a
+unfolding hasConcurrent
+has-below a x k h = ltb-true _ _ (both (ltb k (records a)) _ h .0)
+
+-- beyond the last record there is none
+pub has-beyond : (a : List ℕ) (x : Record) (k : ℕ) → records a ≤ k → hasConcurrent a x k ≡ false
+unfolding hasConcurrent
+has-beyond a x k l = rw (le-ltb _ _ l)
 
 pub unordered-is : (a : List ℕ) (r k : ℕ) → k < records a → isUnordered a r k ≡ concurrent (eventAt a r) (eventAt a k)
-unfolding isUnordered
-unordered-is a r k l = rw (lt-ltb _ _ l)
-
--- as the code finds it out, from the two records that it read
-pub unordered-read : (a : List ℕ) (r k : ℕ) (x y : Record) (b : Bool) → k < records a → x ≡ eventAt a r → y ≡ eventAt a k → b ≡ concurrent x y → isUnordered a r k ≡ b
-unordered-read a r k x y b l e f g = rw (unordered-is a r k l, ← e, ← f) (sym g)
-
--- ---- block by block
--- the part of an archive that is lent for a block
-pub block-part : (a : List ℕ) (b : ℕ) → take ((b + 1) * 512 + 512 - (b + 1) * 512) (drop ((b + 1) * 512) a) ≡ blockOf a b
-unfolding blockOf
-block-part a b = let e : (b + 1) * 512 + 512 - (b + 1) * 512 ≡ 512 = omega arith in rw e
-
--- and that for a record of it
-pub part-long : (l : List ℕ) (s : ℕ) → s + 32 ≤ length l → 32 ≤ length (take (s + 32 - s) (drop s l))
-part-long l s h = simp (length-take, length-drop) (omega arith)
-
--- the blocks have all records
-pub all-blocks : (a : List ℕ) → archiveTest a ≡ true → min ((length a / 512 - 1) * 15) (records a) ≡ records a
-unfolding blocks
-all-blocks a t = omega (arith, records-most a t)
-
--- record k of block b, as the code finds it out
-pub unordered-place : (a : List ℕ) (r b k : ℕ) → archiveTest a ≡ true → b < blocks a → k < countOf (blockOf a b) → (x y : Record) (v : Bool)
-    → x ≡ eventAt a r → y ≡ parseRecord (recordOf (blockOf a b) k) → v ≡ concurrent x y → isUnordered a r (b * 15 + k) ≡ v
-unfolding eventAt
-unordered-place a r b k t h l x y v e f g =
-    let n = block-numbers a t b h in
-    let below : b * 15 + k < records a = omega (arith, n .1) in
-    let i : (b * 15 + k) / 15 ≡ b = omega (arith, n .2) in
-    let j : (b * 15 + k) % 15 ≡ k = omega (arith, n .2) in
-    unordered-read a r (b * 15 + k) x y v below e (f ∙ ap parseRecord (sym (rw (i, j) at (record-place a t (b * 15 + k) below)))) g
+unordered-is a r = has-is a (eventAt a r)
 
 eight-counts : (a : List ℕ) (k : ℕ) → length (eventAt a k .counts) ≡ 8
 unfolding eventAt
@@ -129,17 +103,17 @@ pub unordered-symmetric : (a : List ℕ) (r k : ℕ) → r < records a → k < r
 unordered-symmetric a r k l m = unordered-is a r k m ∙ concurrent-symmetric (eventAt a r) (eventAt a k) ∙ sym (unordered-is a k r l)
 
 pub unordered-irreflexive : (a : List ℕ) (r : ℕ) → isUnordered a r r ≡ false
-unfolding isUnordered
+unfolding hasConcurrent
 unordered-irreflexive a r = rw (concurrent-irreflexive (eventAt a r)) (and-false (ltb r (records a)))
 
 -- ---- the list
 -- a record is never in its own list
-pub never-itself : (a : List ℕ) (r : ℕ) (before after : List ℕ) (n : ℕ) (l : Lists a r before after n) → List·Memᴰ r (l .listed) → ⊥
-never-itself a r before after n l m = true≢false (sym (l .members r .0 m) ∙ unordered-irreflexive a r)
+pub never-itself : (a : List ℕ) (r : ℕ) (l : List ℕ) → Lists a r l → List·Memᴰ r l → ⊥
+never-itself a r l w m = true≢false (sym (w .members r .0 m) ∙ unordered-irreflexive a r)
 
 -- an answer that counts is of a list that fits
 pub count-fits : (a : List ℕ) (r places n : ℕ) → Count n ≡ unorderedAnswer a r places → n ≤ places
-unfolding unorderedAnswer
+unfolding unorderedAnswer listAnswer
 count-fits a r places n e = go (archiveTest a) (ltb r (records a)) (ltb places (unorderedCount a r)) refl e
   where
     go : (t u v : Bool) → ltb places (unorderedCount a r) ≡ v
@@ -148,29 +122,6 @@ count-fits a r places n e = go (archiveTest a) (ltb r (records a)) (ltb places (
     go true false v h q = let z : _≡_ {A = ℕ} 0 1 = cc in absurd (omega arith)
     go true true true h q = let z : _≡_ {A = ℕ} 0 1 = cc in absurd (omega arith)
     go true true false h q = let z : n ≡ unorderedCount a r = cc in omega (arith, ltb-false places (unorderedCount a r) h)
-
--- a list that is long enough has a place for each
-pub unordered-room : (a : List ℕ) (r k m : ℕ) → isUnordered a r k ≡ true → unorderedCount a r ≤ m → countBelow k (isUnordered a r) < m
-unfolding unorderedCount
-unordered-room a r k m e h = count-room (isUnordered a r) k (records a) m e (unordered-below a r k e) h
-
--- the numbers in rising order are such a list
-pub rising-lists : (a : List ℕ) (r : ℕ) (before after : List ℕ) (i : ℕ) → Filled (isUnordered a r) before (records a) i after → Lists a r before after (unorderedCount a r)
-unfolding unorderedCount
-rising-lists a r before after i w =
-    let p = isUnordered a r in
-    let n : length (passing (records a) p) ≡ countBelow (records a) p = passing-length p (records a) in
-    record {
-      listed = passing (records a) p;
-      many = n;
-      counted = refl;
-      members = λ (k : ℕ). (
-        λ (m : List·Memᴰ k (passing (records a) p)). passing-members p (records a) k .0 m .1,
-        λ (h : p k ≡ true). passing-members p (records a) k .1 (unordered-below a r k h, h),
-      );
-      once = λ (i j : ℕ) (f : i < countBelow (records a) p) (g : j < countBelow (records a) p). passing-once p (records a) i j (omega arith) (omega arith);
-      rest = rw (← w .place) (w .is);
-    }
 
 -- ---- the verdict by numbers
 pub found-is : (a : List ℕ) (k : ℕ) → archiveTest a ≡ true → k < records a → foundRecord a k ≡ recordAt a k

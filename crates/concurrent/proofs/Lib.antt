@@ -1,2 +1,4 @@
-pub mod Below
 pub mod Laws
+pub mod ListLaws
+pub mod TallyLaws
+pub mod SortLaws

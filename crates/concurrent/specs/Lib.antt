@@ -1,2 +1,3 @@
 pub mod Unordered
+pub mod Tally
 pub mod ByNumber

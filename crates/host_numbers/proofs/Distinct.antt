@@ -21,7 +21,7 @@ use Rattle.entries.proofs.Laws.{well-made-count}
 use Rattle.archive.specs.Archive.{archiveTest, records, countRecords}
 use Rattle.archive.specs.declared.Counted.{Counted}
 use Rattle.archive.specs.declared.Counted.the-variants.{Count, Refused as NotCounted}
-use Rattle.concurrent.specs.Unordered.{unorderedCount, unorderedAnswer}
+use Rattle.concurrent.specs.Unordered.{unorderedCount, listAnswer, unorderedAnswer}
 use Rattle.reset.specs.Network.{quiescent}
 use Rattle.reset.specs.Receipts.{receiptsToRest}
 use Rattle.reset.specs.Config.{Config}
@@ -215,7 +215,7 @@ counts-distinct a b = one countedNumber countedAt _ _ (counted-back a) (counted-
 
 -- ---- unordered lists, whose counts start at 1,000 too
 listed-back : (a : List ℕ) (k places : ℕ) → Back countedNumber countedAt (unorderedAnswer a k places)
-unfolding unorderedAnswer
+unfolding unorderedAnswer listAnswer
 listed-back a k places =
     by-test (Back countedNumber countedAt) (archiveTest a)
     (by-test (Back countedNumber countedAt) (ltb k (records a))

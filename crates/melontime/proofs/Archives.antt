@@ -12,7 +12,7 @@ use Rattle.entries.proofs.Laws.{well-made-count}
 use Rattle.archive.specs.Archive.{blockOf, blocks, archiveTest, records, recordAt, countRecords, findRecord, foundRecord}
 use Rattle.archive.proofs.Laws.{test-blocks, block-parts}
 use Rattle.archive.proofs.Tested.{record-length}
-use Rattle.concurrent.specs.Unordered.{isUnordered, unorderedCount, unorderedAnswer, UnorderedList}
+use Rattle.concurrent.specs.Unordered.{isUnordered, concurrentCount, unorderedCount, listAnswer, unorderedAnswer, UnorderedList}
 use Rattle.archive.specs.declared.Counted.{Counted}
 use Rattle.archive.specs.declared.Counted.the-variants.{Count, Refused as NotCounted}
 use Rattle.codec.proofs.CountLaws.{count-most}
@@ -41,7 +41,7 @@ counted-small a h = go (archiveTest a) refl
     go false e = omega arith
 
 pub listed-small : (a : List ℕ) (k places : ℕ) → length a ≤ greatest → countedNumber (unorderedAnswer a k places) ≤ greatest
-unfolding unorderedAnswer unorderedCount
+unfolding unorderedAnswer listAnswer concurrentCount
 listed-small a k places h = go (archiveTest a) (ltb k (records a)) (ltb places (unorderedCount a k)) refl
   where
     go : (t u v : Bool) → archiveTest a ≡ t → countedNumber (cond t (cond u (cond v (NotCounted 11) (Count (unorderedCount a k))) (NotCounted 12)) (NotCounted 1)) ≤ greatest
@@ -69,4 +69,4 @@ found-is a k e = rw (eq-eqb _ 0 e)
 
 -- ---- an unordered list
 pub listing : {a : List ℕ} {k : ℕ} {before after : List ℕ} {q : Counted} {r : ℕ} → UnorderedList a k before after q → r ≡ countedNumber q → HostList a k before after r
-listing u e = record { number = e ∙ ap (λ (x : Counted). countedNumber x) (u .answers); leaves = rw (u .answers) at (u .leaves) }
+listing u e = record { number = e ∙ ap (λ (x : Counted). countedNumber x) (u .answers); leaves = u .leaves }

@@ -12,7 +12,8 @@ use Rattle.header.specs.Header.{headerFits, wellMadeHeader, writeHeader}
 use Rattle.header.specs.declared.Header.{Header}
 use Rattle.entries.specs.Entries.{wellMadeEntries, countOf, entriesFit, writeEntries, readRecord}
 use Rattle.archive.specs.Archive.{findRecord}
-use Rattle.concurrent.specs.Unordered.{unorderedAnswer, ListAfter}
+use Rattle.events.specs.Events.{eventAt}
+use Rattle.concurrent.specs.Unordered.{unorderedAnswer, listAfter}
 use Rattle.archive.specs.declared.Counted.{Counted}
 use Rattle.archive.specs.declared.Counted.the-variants.{Count, Refused}
 use Rattle.reset.specs.Config.{networkRules}
@@ -65,7 +66,7 @@ both-leave p a d b = by-test (λ (o : HostStep). o .number < entryMade → (o .a
 list-leaves : (a : List ℕ) (k : ℕ) (before after : List ℕ) (r : ℕ) → HostList a k before after r → r < tells → after ≡ before
 list-leaves a k before after r q l = go (unorderedAnswer a k (length before)) (q .number) (q .leaves)
   where
-    go : (x : Counted) → r ≡ countedNumber x → ListAfter a k before after x → after ≡ before
+    go : (x : Counted) → r ≡ countedNumber x → after ≡ listAfter a (eventAt a k) before x → after ≡ before
     go (Count n) e h = absurd (omega arith)
     go (Refused n) e h = h
 

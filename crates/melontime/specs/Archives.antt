@@ -8,7 +8,8 @@ use lib.ListN.{length}
 use Rattle.codec.specs.Splice.{splice}
 use Rattle.codec.specs.Written.{Written, refused, wrote}
 use Rattle.archive.specs.Archive.{findRecord, foundRecord}
-use Rattle.concurrent.specs.Unordered.{unorderedAnswer, ListAfter}
+use Rattle.events.specs.Events.{eventAt}
+use Rattle.concurrent.specs.Unordered.{unorderedAnswer, listAfter}
 use Rattle.host_numbers.specs.Numbers.{recordLength, areaLength, countedNumber}
 
 -- a record that is not found is refused as the archive refuses it, an area of under 32 bytes is 11; the rest of an area is left
@@ -21,4 +22,4 @@ recordFound a k d =
 -- the call of record k's unordered list returned r, and left the list as `after`
 pub record HostList (a : List ℕ) (k : ℕ) (before after : List ℕ) (r : ℕ) : Type 0 where
   pub number : r ≡ countedNumber (unorderedAnswer a k (length before))
-  pub leaves : ListAfter a k before after (unorderedAnswer a k (length before))
+  pub leaves : after ≡ listAfter a (eventAt a k) before (unorderedAnswer a k (length before))

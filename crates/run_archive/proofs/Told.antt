@@ -16,9 +16,11 @@ use Rattle.record.specs.Record.{parseRecord}
 use Rattle.record.specs.declared.Record.{Record}
 use Rattle.archive.specs.Archive.{records}
 use Rattle.verdict.specs.declared.Compared.the-variants.{Ordered}
-use Rattle.concurrent.specs.Unordered.{eventAt, isUnordered}
+use Rattle.events.specs.Events.{eventAt}
+use Rattle.concurrent.specs.Unordered.{isUnordered}
 use Rattle.concurrent.specs.ByNumber.{orderOf}
-use Rattle.concurrent.proofs.Laws.{unordered-below, unordered-means, order-one-phase, listed-by-order}
+use Rattle.concurrent.proofs.Laws.{has-below, unordered-means, order-one-phase, listed-by-order}
+use Rattle.concurrent.proofs.ListLaws.{every-list}
 use Rattle.reset.specs.Config.{Config, wellMade, networkRules}
 use Rattle.reset.proofs.ConfigLaws.{rules}
 use Rattle.reset.specs.Clock.{vector}
@@ -85,7 +87,7 @@ module _ (c : Config) (E : List Accepted) (range : (k : ℕ) → k < length E �
   listed : (x y : ℕ) → x < length E → (isUnordered (archiveOf c E) x y ≡ true) ↔ Beside E x y
   listed x y xl = (
     λ h.
-        let k : y < records (archiveOf c E) = unordered-below (archiveOf c E) x y h in
+        let k : y < records (archiveOf c E) = has-below (archiveOf c E) (eventAt (archiveOf c E) x) y h in
         let l : y < length E = omega (arith, A .many) in
         let p : phaseOf E x ≡ phaseOf E y = sym (phase-is x xl) ∙ unordered-means (archiveOf c E) x y k .0 h .0 ∙ phase-is y l in
         (l, p, verdicts x y xl l p .unordered .0 (listed-by-order (archiveOf c E) x y (A .tested) (in-archive x xl) k .0 h)),
@@ -98,8 +100,8 @@ module _ (c : Config) (E : List Accepted) (range : (k : ℕ) → k < length E �
       record {
         verdicts = verdicts;
         listed = listed;
-        lists = λ x b d n xl l y.
-            let m = l .members y in let u = listed x y xl in (λ h. u .0 (m .0 h), λ h. m .1 (u .1 h));
+        lists = λ x y xl.
+            let m = every-list (archiveOf c E) (A .tested) x .lists .members y in let u = listed x y xl in (λ h. u .0 (m .0 h), λ h. m .1 (u .1 h));
       }
 
 -- two entries of one phase with one timestamp are one entry

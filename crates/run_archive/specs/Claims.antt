@@ -16,7 +16,7 @@ use Rattle.entries.specs.Entries.{writeEntries}
 use Rattle.block_test.specs.BlockTest.{recordKnown}
 use Rattle.archive.specs.Archive.{archiveTest, records, recordAt}
 use Rattle.verdict.specs.declared.Compared.the-variants.{Ordered}
-use Rattle.concurrent.specs.Unordered.{isUnordered, Lists}
+use Rattle.concurrent.specs.Unordered.{isUnordered, unorderedList}
 use Rattle.concurrent.specs.ByNumber.{orderOf}
 use Rattle.reset.specs.Config.{Config, wellMade, networkRules}
 use Rattle.reset.specs.Clock.{vector}
@@ -67,7 +67,7 @@ Beside E x y = (y < length E) × (phaseOf E x ≡ phaseOf E y) × Apart E x y
 pub record Tells (a : List ℕ) (E : List Accepted) : Type 0 where
   pub verdicts : (x y : ℕ) → x < length E → y < length E → phaseOf E x ≡ phaseOf E y → Verdicts a E x y
   pub listed : (x y : ℕ) → x < length E → (isUnordered a x y ≡ true) ↔ Beside E x y
-  pub lists : (x : ℕ) (before after : List ℕ) (n : ℕ) → x < length E → (l : Lists a x before after n) → (y : ℕ) → List·Memᴰ y (l .listed) ↔ Beside E x y
+  pub lists : (x y : ℕ) → x < length E → List·Memᴰ y (unorderedList a x) ↔ Beside E x y
 
 -- ---- the claims, for every header that setup accepts and every list of steps whose register numbers fit four bytes
 abbrev pub AllInRange : Type 0
