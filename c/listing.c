@@ -1,6 +1,6 @@
 /* The worked listing of document 01 from C: its steps, the archive of its
-   entries, what the archive answers, a network that is laid up, and every refusal.
-   What it prints is held to listing.out. */
+   entries, what the archive answers, the order of a list, a network that is laid
+   up, and every refusal. What it prints is held to listing.out. */
 #include <inttypes.h>
 #include <stdio.h>
 #include <stdlib.h>
@@ -147,6 +147,42 @@ static void read_archive(void) {
             printf("%s %" PRIu64, place == 0 ? ":" : "", list[place]);
         printf("\n");
     }
+}
+
+enum { BACKWARDS = 4 };
+
+/* An archive of three stations that send nothing. The last record is of station 2;
+   those before it are of the others, from the last entry to the first. */
+static void write_backwards(uint8_t *blocks) {
+    uint8_t allowances[MELONTIME_ALLOWANCES] = {2, 0, 2, 0, 1, 0};
+    uint8_t limits[MELONTIME_LIMITS] = {0};
+    uint8_t events[(BACKWARDS + 1) * MELONTIME_RECORD];
+    uint64_t answer;
+    limits[8 * 0 + 1] = limits[8 * 1 + 0] = limits[8 * 1 + 2] = limits[8 * 2 + 1] = 1;
+    answer = melontime_write_header(3, 9, allowances, sizeof allowances, limits, sizeof limits, blocks,
+                                    MELONTIME_BLOCK);
+    must(answer == MELONTIME_DONE, "the header is written");
+    must(melontime_setup(blocks, MELONTIME_BLOCK, area, sizeof area) == MELONTIME_DONE, "setup is accepted");
+    for (uint32_t k = 0; k <= BACKWARDS; k++) {
+        uint32_t number = k < BACKWARDS ? BACKWARDS - 1 - k : k;
+        struct step entry = {ENTER, k < BACKWARDS ? 1 - k % 2 : 2, 0, k};
+        must(take(entry, events + MELONTIME_RECORD * number) == MELONTIME_ENTRY, "the entry is accepted");
+    }
+    answer = melontime_write_entries(1, events, sizeof events, blocks + MELONTIME_BLOCK, MELONTIME_BLOCK);
+    must(answer == MELONTIME_DONE, "the entries are written");
+}
+
+/* A list is by station, then own count, however the records are numbered. */
+static void try_list_order(void) {
+    uint8_t blocks[2 * MELONTIME_BLOCK];
+    uint64_t list[BACKWARDS], answer;
+    write_backwards(blocks);
+    answer = melontime_unordered(blocks, sizeof blocks, BACKWARDS, list, BACKWARDS);
+    must(answer == MELONTIME_TOLD + BACKWARDS, "all others are listed");
+    printf("by station, then own count:");
+    for (int place = 0; place < BACKWARDS; place++)
+        printf(" %" PRIu64, list[place]);
+    printf("\n");
 }
 
 static void refused(const char *what, uint64_t answer, uint64_t expected) {
@@ -298,6 +334,7 @@ int main(void) {
     must(melontime_rest(area, sizeof area) == MELONTIME_REST_YES, "the network is at rest");
     write_archive();
     read_archive();
+    try_list_order();
     try_rest();
     try_receipts_to_rest();
     try_news();

@@ -161,8 +161,9 @@ uint64_t melontime_archive_records(const uint8_t *archive, size_t archive_length
 uint64_t melontime_found_record(const uint8_t *archive, size_t archive_length, uint64_t number, uint8_t *area,
                                 size_t area_length);
 
-/* The numbers of the records of a record's phase that are unordered with it,
-   each once, in no promised order, to the first places of a list. */
+/* The numbers of the records of a record's phase that are unordered with it, to
+   the first places of a list: by station, then by the count of that station, both
+   rising; records that have both in common, in an ill-kept archive, by number. */
 uint64_t melontime_unordered(const uint8_t *archive, size_t archive_length, uint64_t number, uint64_t *list,
                              size_t list_length);
 

@@ -163,9 +163,21 @@ fn run_records(count: usize) -> Vec<Record> {
     records
 }
 
+fn archive_with(records: &[Record]) -> Vec<u8> {
+    archive::build(&complete_network(), records).expect("an archive")
+}
+
 /// An archive of so many records.
 pub fn archive_of(count: usize) -> Vec<u8> {
-    archive::build(&complete_network(), &run_records(count)).expect("an archive")
+    archive_with(&run_records(count))
+}
+
+/// The same records from the last to the first: in each phase every station's
+/// own counts fall.
+pub fn falling_archive_of(count: usize) -> Vec<u8> {
+    let mut records = run_records(count);
+    records.reverse();
+    archive_with(&records)
 }
 
 /// Bytes that differ from an archive in their last block only, where a count of

@@ -29,6 +29,9 @@ use measure::{print_head, print_row, sides};
 /// Prints a row with its name.
 type Row = fn(&str);
 
+/// Makes an archive of so many records.
+type Input = fn(usize) -> Vec<u8>;
+
 /// The records of an archive of a MiB.
 const MEBIBYTE_RECORDS: usize = 2047 * 15;
 
@@ -225,31 +228,32 @@ fn archive_row(what: &str, bytes: &[u8], units: f64) {
     print_row(what, units, library, [Some(rust), Some(place), Some(plain)]);
 }
 
-fn unordered_row(what: &str, count: usize) {
-    let bytes = inputs::archive_of(count);
+/// A row of the list of an archive's middle record, which all sides give in the
+/// same order.
+fn unordered_row(what: &str, bytes: &[u8]) {
+    let count = archive::record_count(bytes).expect("an archive");
     let number = count / 2;
     let (mut ours, mut theirs, mut list) = (vec![0; count], vec![0; count], vec![0; count]);
-    let listed = archive::unordered_list(&bytes, number, &mut theirs).expect("a list");
-    let answer = raw::unordered(&bytes, number as u64, &mut ours);
+    let listed = archive::unordered_list(bytes, number, &mut theirs).expect("a list");
+    let answer = raw::unordered(bytes, number as u64, &mut ours);
     assert_eq!(answer, 1000 + listed as u64);
-    let answer = placed::unordered_list(&bytes, number, &mut list);
+    let answer = placed::unordered_list(bytes, number, &mut list);
     assert_eq!(answer, Ok(listed));
-    ours[..listed].sort_unstable();
     assert!(ours == list && theirs.iter().zip(&list).all(|(&a, &b)| a as u64 == b));
     let [library, rust, place, plain] = sides([
         &mut || {
-            black_box(raw::unordered(black_box(&bytes), number as u64, &mut ours));
+            black_box(raw::unordered(black_box(bytes), number as u64, &mut ours));
         },
         &mut || {
-            let list = archive::unordered_list(black_box(&bytes), number, &mut theirs);
+            let list = archive::unordered_list(black_box(bytes), number, &mut theirs);
             let _ = black_box(list);
         },
         &mut || {
-            let list = placed::unordered_list(black_box(&bytes), number, &mut list);
+            let list = placed::unordered_list(black_box(bytes), number, &mut list);
             let _ = black_box(list);
         },
         &mut || {
-            black_box(read(black_box(&bytes)));
+            black_box(read(black_box(bytes)));
         },
     ]);
     let others = [Some(rust), Some(place), Some(plain)];
@@ -304,15 +308,21 @@ fn archive_rows(is_wanted: impl Fn(&str) -> bool) {
 }
 
 fn unordered_rows(is_wanted: impl Fn(&str) -> bool) {
+    let (rising, falling): (Input, Input) = (inputs::archive_of, inputs::falling_archive_of);
     let lists = [
-        ("unordered list of 1,000, per record", 1_000),
-        ("unordered list of 10,000, per record", 10_000),
-        ("unordered list of 100,000, per record", 100_000),
-        ("unordered list of 1,000,000, per record", 1_000_000),
+        ("unordered list of 1,000, per record", rising, 1_000),
+        ("unordered list of 10,000, per record", rising, 10_000),
+        ("unordered list of 100,000, per record", rising, 100_000),
+        ("unordered list of 1,000,000, per record", rising, 1_000_000),
+        (
+            "unordered list of 1,000,000, own counts falling, per record",
+            falling,
+            1_000_000,
+        ),
     ];
-    for (what, count) in lists {
+    for (what, archive_of, count) in lists {
         if is_wanted(what) {
-            unordered_row(what, count);
+            unordered_row(what, &archive_of(count));
         }
     }
 }

@@ -6,8 +6,8 @@ use melontime::raw;
 use reference::archive::{self, found_record, record_count};
 use reference::check::seal;
 use reference::generate::{
-    admitted_record, any_archive, any_network, any_ranged_header, damaged_archive, mutated_archive,
-    run_of, ArchiveDamage,
+    admitted_record, any_archive, any_network, any_ranged_header, damaged_archive, ill_kept_parts,
+    ill_kept_records, mutated_archive, run_of, ArchiveDamage, Kept,
 };
 use reference::header::Header;
 use reference::random::Rng;
@@ -45,8 +45,8 @@ fn compare_found(bytes: &[u8], number: u64) {
     }
 }
 
-/// An unordered list by both into places of one length: the same numbers, each
-/// once, in whichever order, and the places behind them left.
+/// An unordered list by both into places of one length: the same numbers in the
+/// same order, and the places behind them left.
 fn compare_list(bytes: &[u8], number: u64, right: &Result<Vec<usize>, u64>, length: usize) {
     let mut list = vec![UNTOUCHED; length];
     let answer = raw::unordered(bytes, number, &mut list);
@@ -61,8 +61,7 @@ fn compare_list(bytes: &[u8], number: u64, right: &Result<Vec<usize>, u64>, leng
         }
         Ok(right) => {
             assert_eq!(answer, 1000 + right.len() as u64);
-            let (listed, behind) = list.split_at_mut(right.len());
-            listed.sort_unstable();
+            let (listed, behind) = list.split_at(right.len());
             let same = listed.iter().zip(right).all(|(&a, &b)| a == b as u64);
             assert!(same, "the list of record {number}");
             assert!(behind.iter().all(|&place| place == UNTOUCHED));
@@ -147,6 +146,39 @@ fn large_archives() {
         let bytes = archive::build(&header, &records).expect("an archive");
         assert!(compare_test(&bytes));
         compare_calls(rng, &bytes, 8);
+    });
+}
+
+/// Lists of the first record, of the last and of some others.
+fn compare_lists(rng: &mut Rng, header: &Header, records: &[Record]) {
+    let bytes = archive::build(header, records).expect("an archive");
+    let count = records.len() as u64;
+    for number in [0, count - 1, rng.below(count), rng.below(count)] {
+        compare_unordered(&bytes, number);
+    }
+}
+
+/// Records in no order or a wrong one, some of them of one station with one own
+/// count, of one phase and of several.
+#[test]
+fn ill_kept_lists() {
+    cases("ill_kept_lists", 30, |rng| {
+        for kept in Kept::ALL {
+            for most in [40, 600, 5_000] {
+                let (phases, count) = (rng.pick(&[1, 1, 3]), 1 + rng.index(most));
+                let (header, records) = ill_kept_parts(rng, kept, phases, count);
+                compare_lists(rng, &header, &records);
+            }
+        }
+    });
+}
+
+#[test]
+fn a_large_archive_of_falling_own_counts() {
+    cases("a_large_archive_of_falling_own_counts", 1, |rng| {
+        let header = Header::new(8, 65_535);
+        let records = ill_kept_records(rng, &header, Kept::Falling, 1, 100_000);
+        compare_lists(rng, &header, &records);
     });
 }
 

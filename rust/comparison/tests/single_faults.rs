@@ -16,8 +16,10 @@ fn counted_by_both(bytes: &[u8]) -> u64 {
     assert_eq!(raw::archive_records(bytes), answer);
     let found = archive::found_record(bytes, 0).map_or_else(refusal, |_| 0);
     assert_eq!(raw::found_record(bytes, 0, &mut [0; RECORD]), found);
-    let list = counted(archive::unordered_list(bytes, 0, &mut [0; 64]));
-    assert_eq!(raw::unordered(bytes, 0, &mut [0; 64]), list);
+    let (mut right, mut list) = ([64; 64], [64; 64]);
+    let listed = counted(archive::unordered_list(bytes, 0, &mut right));
+    assert_eq!(raw::unordered(bytes, 0, &mut list), listed);
+    assert_eq!(list, right.map(|place| place as u64));
     answer
 }
 

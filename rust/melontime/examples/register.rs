@@ -503,6 +503,13 @@ fn happened_before(records: &[Record]) -> Vec<Vec<bool>> {
     before
 }
 
+/// What a list goes by: station, then own count, then number.
+fn place_in_list(records: &[Record], number: u64) -> (u32, u16, u64) {
+    let record = &records[number as usize];
+    let station = record.station();
+    (station, record.counts()[station as usize], number)
+}
+
 fn main() -> Result<(), Box<dyn Error>> {
     let mut header = Header::new(STATIONS, ALLOWANCE + 4 * u16::from(LIMIT));
     for station in 0..STATIONS {
@@ -580,8 +587,8 @@ fn main() -> Result<(), Box<dyn Error>> {
                 unordered.push(b as u64);
             }
         }
-        let mut list = archive.unordered(a as u64)?;
-        list.sort_unstable();
+        unordered.sort_by_key(|&number| place_in_list(records, number));
+        let list = archive.unordered(a as u64)?;
         assert_eq!(list, unordered);
         if a % 60 == 0 {
             let last = records.len() - 1;

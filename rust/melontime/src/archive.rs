@@ -143,7 +143,8 @@ impl<'a> Archive<'a> {
     }
 
     /// The numbers of the records of a record's phase that are unordered with
-    /// it, in no promised order.
+    /// it: by station, then by the count of that station, both rising. Records
+    /// that have both in common, in an ill-kept archive, are by number.
     ///
     /// # Errors
     ///
@@ -152,11 +153,18 @@ impl<'a> Archive<'a> {
     /// ```
     /// use melontime::{archive_bytes, Archive, Header, Network, Refusal};
     ///
-    /// let header = Header::new(2, 9).allow(0, 3)?.allow(1, 3)?.link(0, 1, 1)?;
+    /// let mut header = Header::new(3, 9).link(0, 1, 1)?.link(1, 2, 1)?;
+    /// for station in 0..3 {
+    ///     header = header.allow(station, 2)?;
+    /// }
     /// let mut network = Network::setup(&header)?;
-    /// let records = [network.enter(0, 1)?, network.enter(0, 2)?, network.enter(1, 3)?];
-    /// let bytes = archive_bytes(&header, &records)?;
-    /// assert_eq!(Archive::open(&bytes)?.unordered(0)?, [2]);
+    /// let [a, b] = [network.enter(0, 1)?, network.enter(0, 2)?];
+    /// let [c, d] = [network.enter(1, 3)?, network.enter(1, 4)?];
+    /// let e = network.enter(2, 5)?;
+    ///
+    /// // However the records are numbered, the list is a, b, c, d.
+    /// let bytes = archive_bytes(&header, &[d, b, c, a, e])?;
+    /// assert_eq!(Archive::open(&bytes)?.unordered(4)?, [3, 1, 2, 0]);
     /// # Ok::<(), Refusal>(())
     /// ```
     pub fn unordered(&self, number: u64) -> Result<Vec<u64>, Refusal> {

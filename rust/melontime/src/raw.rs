@@ -304,7 +304,8 @@ pub fn found_record(archive: &[u8], number: u64, area: &mut [u8]) -> u64 {
     }
 }
 
-/// Lists the records of a record's phase that are unordered with it.
+/// Lists the records of a record's phase that are unordered with it, by station,
+/// then own count, then number.
 #[must_use]
 pub fn unordered(archive: &[u8], number: u64, list: &mut [u64]) -> u64 {
     // SAFETY: see the head of this module.

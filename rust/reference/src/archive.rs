@@ -89,18 +89,20 @@ impl<'a> Archive<'a> {
         Record::read(self.bytes_of(r)?)
     }
 
-    /// The numbers of the records of r's phase that are unordered with it,
-    /// here in rising order; 12 where there is no record r.
+    /// The numbers of the records of r's phase that are unordered with it: by
+    /// station, then own count, both rising, and equal pairs by number; 12 where
+    /// there is no record r.
     pub fn unordered(&self, r: usize) -> Result<Vec<usize>, Refusal> {
         let of = self.record(r)?;
-        let mut list = Vec::new();
+        let mut keys = Vec::new();
         for k in 0..self.count {
             let other = self.record(k)?;
             if other.phase == of.phase && compare(&of.counts, &other.counts) == Verdict::Unordered {
-                list.push(k);
+                keys.push((other.station, other.own_count(), k));
             }
         }
-        Ok(list)
+        keys.sort();
+        Ok(keys.into_iter().map(|(_, _, number)| number).collect())
     }
 }
 
@@ -119,8 +121,9 @@ pub fn found_record(bytes: &[u8], r: usize) -> Result<&[u8], Refusal> {
     Archive::open(bytes)?.bytes_of(r)
 }
 
-/// The unordered list of record r, into the first places of a buffer; answers
-/// how many, and leaves the places past the list's end. Refusals 1, 12, 11.
+/// The unordered list of record r, in the order of [`Archive::unordered`], into
+/// the first places of a buffer; answers how many, and leaves the places past
+/// the list's end. Refusals 1, 12, 11.
 pub fn unordered_list(bytes: &[u8], r: usize, places: &mut [usize]) -> Result<usize, Refusal> {
     let list = Archive::open(bytes)?.unordered(r)?;
     if places.len() < list.len() {

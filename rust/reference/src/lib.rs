@@ -16,7 +16,7 @@
 //! | [`refusal`] | 'State area and host', the table of numbers; document 02, CR 9 |
 //! | [`check`], [`header`], [`entries`], [`record`] | 'Archive blocks'; document 02, CR 3 |
 //! | [`order`] | 'Plain network and recorded order', timestamp order and verdicts |
-//! | [`archive`] | 'Archive blocks', archives, readers and lists |
+//! | [`archive`] | 'Archive blocks', archives, readers and lists; document 02, CR 4 |
 //! | [`network`] | 'The network', 'What a station holds', 'The steps', 'State area and host'; document 02, CR 5, CR 7, CR 9 and CR 12 |
 //! | [`area`], [`in_place`] | 'State area and host', with the layout of docs/LAYOUT.md |
 //! | [`causality`] | 'Plain network and recorded order', demand 3 |

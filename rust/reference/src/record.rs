@@ -74,6 +74,11 @@ impl Record {
         station < MAX_STATIONS && peer_fits && self.phase <= LAST_PHASE && self.counts[station] >= 1
     }
 
+    /// The count of the record's own station, which is below 8.
+    pub fn own_count(&self) -> u16 {
+        self.counts[usize::from(self.station)]
+    }
+
     /// The bytes of the fields, whether right or not.
     pub fn to_bytes(&self) -> [u8; RECORD] {
         let mut bytes = [0; RECORD];

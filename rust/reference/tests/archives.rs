@@ -2,7 +2,7 @@
 
 use reference::archive::{self, Archive, Reader};
 use reference::check::{seal, BLOCK};
-use reference::generate::{self, ArchiveDamage};
+use reference::generate::{self, ArchiveDamage, Kept};
 use reference::header::Header;
 use reference::order::{compare, less, verdict, Verdict};
 use reference::random::Rng;
@@ -228,6 +228,145 @@ fn unordered_lists() {
     assert_eq!(number(archive::verdict_by_number(&broken, 6, 2)), 1);
 }
 
+/// The list of a record that is put behind these, of stations and counts. It is
+/// of station 7, of which they know nothing, so it is unordered with all.
+fn list_of(records: &[(u8, &[u16])]) -> Vec<usize> {
+    let mut records: Vec<Record> = records
+        .iter()
+        .map(|&(station, counts)| own(station, 0, counts))
+        .collect();
+    records.push(own(7, 0, &[0, 0, 0, 0, 0, 0, 0, 1]));
+    let bytes = archive::build(&Header::new(8, 65_535), &records).unwrap();
+    let list = Archive::open(&bytes).unwrap().unordered(records.len() - 1);
+    assert_eq!(list.as_ref().map(Vec::len), Ok(records.len() - 1));
+    list.unwrap()
+}
+
+/// Lists by station, then own count, then number, worked by hand.
+#[test]
+fn order_of_lists() {
+    // Stations in turn.
+    let turns: [(u8, &[u16]); 5] = [
+        (1, &[0, 1]),
+        (0, &[1]),
+        (1, &[0, 2]),
+        (0, &[2]),
+        (1, &[0, 3]),
+    ];
+    assert_eq!(list_of(&turns), [1, 3, 0, 2, 4]);
+    // From the last station to the first.
+    let stations: [(u8, &[u16]); 3] = [(6, &[0, 0, 0, 0, 0, 0, 1]), (3, &[0, 0, 0, 1]), (0, &[1])];
+    assert_eq!(list_of(&stations), [2, 1, 0]);
+    // Own counts fall.
+    assert_eq!(list_of(&[(0, &[3]), (0, &[2]), (0, &[1])]), [2, 1, 0]);
+    assert_eq!(list_of(&[(0, &[2]), (0, &[3]), (0, &[1])]), [2, 0, 1]);
+    // Equal pairs, by number, whatever the other counts are.
+    let pairs: [(u8, &[u16]); 6] = [
+        (0, &[2, 9]),
+        (0, &[1, 0]),
+        (0, &[2, 0]),
+        (0, &[1, 3]),
+        (0, &[2, 5]),
+        (0, &[1, 1]),
+    ];
+    assert_eq!(list_of(&pairs), [1, 3, 5, 0, 2, 4]);
+    // A lower station comes first though its own count is higher.
+    assert_eq!(list_of(&[(1, &[0, 1]), (0, &[5])]), [1, 0]);
+    // By own count first this would be 0, 2, 1, and 2, 0, 1.
+    assert_eq!(list_of(&[(0, &[1]), (0, &[3]), (1, &[0, 2])]), [0, 1, 2]);
+    assert_eq!(list_of(&[(0, &[2]), (0, &[3]), (1, &[0, 1])]), [0, 1, 2]);
+    // The own count is the count of the record's station, and no other.
+    assert_eq!(list_of(&[(1, &[5, 1, 9]), (1, &[4, 2, 8])]), [0, 1]);
+    assert_eq!(list_of(&[(1, &[4, 2, 8]), (1, &[5, 1, 9])]), [1, 0]);
+    // Counts are numbers, of two bytes.
+    let wide: [(u8, &[u16]); 5] = [
+        (2, &[0, 0, 65_535]),
+        (2, &[0, 0, 256]),
+        (2, &[0, 0, 32_768]),
+        (2, &[0, 0, 255]),
+        (2, &[0, 0, 1]),
+    ];
+    assert_eq!(list_of(&wide), [4, 3, 1, 2, 0]);
+}
+
+/// A list once more, by its definition: each station, each own count that there
+/// is and each number, all rising.
+fn listed(records: &[Record], r: usize) -> Vec<usize> {
+    let mut list = Vec::new();
+    for station in 0..8 {
+        let mut occurs = vec![false; 65_536];
+        for record in records.iter().filter(|record| record.station == station) {
+            occurs[usize::from(record.counts[usize::from(station)])] = true;
+        }
+        for own in (0..=65_535).filter(|&own| occurs[usize::from(own)]) {
+            for (k, record) in records.iter().enumerate() {
+                let verdict = verdict(&records[r].to_bytes(), &record.to_bytes());
+                if record.station == station
+                    && record.counts[usize::from(station)] == own
+                    && verdict == Ok(Verdict::Unordered)
+                {
+                    list.push(k);
+                }
+            }
+        }
+    }
+    list
+}
+
+/// How often two records that follow each other in a list are equal pairs, and
+/// how often their numbers fall, at one station and from one to the next.
+#[derive(Debug, Default)]
+struct Seen {
+    equal: usize,
+    falling: usize,
+    stations: usize,
+}
+
+impl Seen {
+    fn add(&mut self, records: &[Record], list: &[usize]) {
+        for pair in list.windows(2) {
+            let (a, b) = (&records[pair[0]], &records[pair[1]]);
+            let fall = usize::from(pair[0] > pair[1]);
+            if a.station == b.station {
+                self.falling += fall;
+            } else {
+                self.stations += fall;
+            }
+            self.equal += usize::from((a.station, a.own_count()) == (b.station, b.own_count()));
+        }
+    }
+}
+
+#[test]
+fn ill_kept_archives() {
+    let seed = 14;
+    println!("seed {seed}");
+    let mut rng = Rng::new(seed);
+    for kept in Kept::ALL {
+        let mut seen = Seen::default();
+        for _ in 0..150 {
+            let (phases, count) = (rng.range(1, 3) as u32, 1 + rng.index(70));
+            let (header, records) = generate::ill_kept_parts(&mut rng, kept, phases, count);
+            let bytes = archive::build(&header, &records).unwrap();
+            let opened = Archive::open(&bytes).unwrap();
+            for _ in 0..3 {
+                let r = rng.index(count);
+                let list = opened.unordered(r).unwrap();
+                assert_eq!(list, listed(&records, r), "{kept:?}");
+                let mut places = vec![usize::MAX; list.len() + 3];
+                let answer = archive::unordered_list(&bytes, r, &mut places);
+                assert_eq!(answer, Ok(list.len()));
+                assert_eq!(places[..list.len()], list);
+                assert_eq!(places[list.len()..], [usize::MAX; 3]);
+                seen.add(&records, &list);
+            }
+        }
+        println!("{kept:?}: {seen:?}");
+        assert!(seen.equal > 500 && seen.stations > 100);
+        assert_eq!(seen.falling > 1_000, kept != Kept::Rising);
+    }
+}
+
 #[test]
 fn random_archives() {
     let seed = 11;
@@ -263,6 +402,7 @@ fn random_archives() {
         }
         let (a, b) = (rng.index(records.len()), rng.index(records.len()));
         let list = opened.unordered(a).unwrap();
+        assert_eq!(list, listed(&records, a));
         let direct = archive::verdict_by_number(&bytes, a, b);
         assert_eq!(
             direct,
@@ -277,8 +417,9 @@ fn random_archives() {
             Ok(list.len())
         );
         if let Some(fewer) = list.len().checked_sub(1) {
-            let mut places = vec![0; fewer];
+            let mut places = vec![usize::MAX; fewer];
             assert_eq!(number(archive::unordered_list(&bytes, a, &mut places)), 11);
+            assert!(places.iter().all(|&place| place == usize::MAX));
         }
     }
 }

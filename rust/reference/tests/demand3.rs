@@ -113,7 +113,8 @@ fn closure() {
 /// Many runs of every shape, with tight and loose ceilings.
 #[test]
 fn random_runs() {
-    let (mut entries, mut phases, mut receipts, mut unordered) = (0, 0, 0, 0);
+    let (mut entries, mut phases, mut receipts) = (0, 0, 0);
+    let (mut unordered, mut reordered) = (0, 0);
     for seed in 3000..6000 {
         let mut rng = Rng::new(seed);
         let wish = NetworkWish {
@@ -150,24 +151,60 @@ fn random_runs() {
             let steps: Vec<Step> = list.iter().map(|e| e.step).collect();
             let before = happened_before(&steps);
             for a in 0..records.len() {
-                let want: Vec<usize> = (0..records.len())
-                    .filter(|&b| {
-                        a != b
-                            && records[a].phase == records[b].phase
-                            && !before.precedes(a, b)
-                            && !before.precedes(b, a)
-                    })
-                    .collect();
+                let is_listed = |b: &usize| {
+                    a != *b
+                        && records[a].phase == records[*b].phase
+                        && !before.precedes(a, *b)
+                        && !before.precedes(*b, a)
+                };
+                let numbers: Vec<usize> = (0..records.len()).filter(is_listed).collect();
+                // Along a run a station's own counts rise.
+                let mut want = Vec::new();
+                for i in 0..header.n() {
+                    want.extend(numbers.iter().filter(|&&b| steps[b].station() == i));
+                }
                 assert_eq!(opened.unordered(a).unwrap(), want, "seed {seed}");
                 unordered += want.len();
+                reordered += usize::from(want != numbers);
             }
         }
     }
     println!(
         "seeds 3000 to 5999: {entries} entries, {receipts} receipts, {phases} phases, \
-         {unordered} unordered"
+         {unordered} unordered, {reordered} lists not by number"
     );
-    assert!(entries > 100_000 && receipts > 20_000 && phases > 10_000 && unordered > 50_000);
+    assert!(entries > 100_000 && receipts > 20_000 && phases > 10_000);
+    assert!(unordered > 50_000 && reordered > 1_000);
+}
+
+/// Two archives of one run, whatever the order of their records, list the same
+/// records in the same order.
+#[test]
+fn lists_do_not_hang_on_record_numbers() {
+    let seed = 33;
+    println!("seed {seed}");
+    let mut rng = Rng::new(seed);
+    let mut long = 0;
+    for _ in 0..200 {
+        let header = generate::any_network(&mut rng);
+        let kept = generate::run_of(&mut rng, &header, 200).records();
+        let mut numbers: Vec<usize> = (0..kept.len()).collect();
+        rng.shuffle(&mut numbers);
+        let mixed: Vec<_> = numbers.iter().map(|&k| kept[k]).collect();
+        let [kept_bytes, mixed_bytes] =
+            [&kept, &mixed].map(|records| archive::build(&header, records).unwrap());
+        let (kept, mixed) = (
+            Archive::open(&kept_bytes).unwrap(),
+            Archive::open(&mixed_bytes).unwrap(),
+        );
+        for (r, &k) in numbers.iter().enumerate() {
+            let list = mixed.unordered(r).unwrap();
+            let list: Vec<usize> = list.into_iter().map(|r| numbers[r]).collect();
+            assert_eq!(list, kept.unordered(k).unwrap());
+            long += usize::from(list.len() > 5);
+        }
+    }
+    assert!(long > 1_000, "{long}");
 }
 
 /// Other news than these, or none.

@@ -5,14 +5,15 @@ use reference::at_bounds::by_hand;
 use reference::check::{seal, BLOCK};
 use reference::generate::{admitted_record, any_archive, any_network, any_ranged_header};
 use reference::generate::{any_record, any_state, damaged_archive, damaged_header_block};
-use reference::generate::{mutated_archive, next_step, rule_breaker, spoil_record, wild_step};
-use reference::generate::{ArchiveDamage, Habits, HeaderDamage, RuleBreak};
+use reference::generate::{ill_kept_parts, ill_kept_records, mutated_archive, next_step};
+use reference::generate::{rule_breaker, spoil_record, wild_step};
+use reference::generate::{ArchiveDamage, Habits, HeaderDamage, Kept, RuleBreak};
 use reference::header::Header;
 use reference::network::{State, Step, AREA};
 use reference::random::Rng;
-use reference::record::Record;
+use reference::record::{Kind, Record, NO_PEER};
 use reference::refusal::Refusal;
-use reference::{archive, area, in_place, order};
+use reference::{archive, area, in_place, order, Counts};
 
 const EVENT: [u8; 32] = [0xa5; 32];
 
@@ -254,20 +255,35 @@ fn verdicts_in_both_ways() {
     }
 }
 
+/// A list in both ways into so many places: the same answer, and places alike
+/// to the last one. A refusal leaves them all.
+fn both_lists(bytes: &[u8], r: usize, length: usize) -> Result<usize, Refusal> {
+    let mut plain = vec![usize::MAX; length];
+    let mut placed = vec![u64::MAX; length];
+    let answer = archive::unordered_list(bytes, r, &mut plain);
+    assert_eq!(
+        in_place::archives::unordered_list(bytes, r, &mut placed),
+        answer
+    );
+    assert!(plain.iter().zip(&placed).all(|(&a, &b)| a as u64 == b));
+    let behind = &placed[answer.unwrap_or(0)..];
+    assert!(behind.iter().all(|&place| place == u64::MAX));
+    answer
+}
+
 /// The calls on an archive in both ways.
 fn both_archives(bytes: &[u8], r: usize) {
     let count = archive::record_count(bytes);
     assert_eq!(in_place::archives::record_count(bytes), count);
     let length = count.unwrap_or(0);
-    for length in [length, length / 3, 2, 0] {
-        let mut plain = vec![usize::MAX; length];
-        let mut placed = vec![u64::MAX; length];
-        let answer = archive::unordered_list(bytes, r, &mut plain);
-        assert_eq!(
-            in_place::archives::unordered_list(bytes, r, &mut placed),
-            answer
-        );
-        assert!(plain.iter().zip(&placed).all(|(&a, &b)| a as u64 == b));
+    let answer = both_lists(bytes, r, length);
+    let listed = answer.unwrap_or(0);
+    for length in [length / 3, 2, 0, listed, listed + 3] {
+        both_lists(bytes, r, length).ok();
+    }
+    // A list that is one place short.
+    if listed > 0 {
+        assert_eq!(both_lists(bytes, r, listed - 1), Err(Refusal::BufferLength));
     }
 }
 
@@ -283,6 +299,69 @@ fn archives_in_both_ways() {
         for way in ArchiveDamage::ALL {
             both_archives(&damaged_archive(&mut rng, way, 40), rng.index(40));
         }
+    }
+}
+
+#[test]
+fn ill_kept_archives_in_both_ways() {
+    for seed in 0..60 {
+        let mut rng = Rng::new(seed);
+        for kept in Kept::ALL {
+            let (phases, count) = (rng.range(1, 3) as u32, 1 + rng.index(400));
+            let (header, records) = ill_kept_parts(&mut rng, kept, phases, count);
+            let bytes = archive::build(&header, &records).expect("an archive");
+            for _ in 0..4 {
+                both_archives(&bytes, rng.index(count + 1));
+            }
+        }
+    }
+}
+
+/// So many that there is much to sort, with few own counts and with many.
+#[test]
+fn large_ill_kept_archives_in_both_ways() {
+    for kept in Kept::ALL {
+        for ceiling in [9, 65_535] {
+            let mut rng = Rng::new(9);
+            let header = Header::new(8, ceiling);
+            let records = ill_kept_records(&mut rng, &header, kept, 2, 20_000);
+            let bytes = archive::build(&header, &records).expect("an archive");
+            let listed = both_lists(&bytes, rng.index(20_000), 20_000);
+            assert!(listed.is_ok_and(|listed| listed > 5_000), "{kept:?}");
+        }
+    }
+}
+
+/// Station 0 counts from `count` down to 1, and each time station 1 up.
+#[test]
+fn a_station_that_falls_beside_one_that_rises() {
+    for count in [1, 2, 3, 8, 15, 16, 100, 5_000] {
+        let falls = |k: u16| [count + 1 - k, 0, 0, 0, 0, 0, 0, 0];
+        let rises = |k: u16| [0, k, 0, 0, 0, 0, 0, 0];
+        let entries = (1..=count).flat_map(|k| [(0, falls(k)), (1, rises(k))]);
+        let last = (2, [0, 0, 1, 0, 0, 0, 0, 0]);
+        let records: Vec<Record> = entries.chain([last]).map(own_entry).collect();
+        let bytes = archive::build(&Header::new(3, 65_535), &records).expect("an archive");
+        let count = usize::from(count);
+        let mut list = vec![u64::MAX; 2 * count + 1];
+        let answer = in_place::archives::unordered_list(&bytes, 2 * count, &mut list);
+        assert_eq!(answer, Ok(2 * count));
+        for k in 0..count {
+            assert_eq!(list[k], 2 * (count - 1 - k) as u64);
+            assert_eq!(list[count + k], 2 * k as u64 + 1);
+        }
+        assert_eq!(list[2 * count], u64::MAX);
+    }
+}
+
+fn own_entry((station, counts): (u8, Counts)) -> Record {
+    Record {
+        kind: Kind::Own,
+        station,
+        peer: NO_PEER,
+        phase: 0,
+        register: 0,
+        counts,
     }
 }
 

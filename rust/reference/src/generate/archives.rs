@@ -9,6 +9,7 @@ use crate::header::Header;
 use crate::random::Rng;
 use crate::record::{Kind, Record, NO_PEER, RECORD};
 use crate::{Counts, LAST_PHASE, MAX_STATIONS};
+use std::cmp::Reverse;
 
 /// A well-made record, of any stations.
 pub fn any_record(rng: &mut Rng) -> Record {
@@ -102,6 +103,83 @@ pub fn any_archive_parts(rng: &mut Rng, most_records: usize) -> (Header, Vec<Rec
 pub fn any_archive(rng: &mut Rng, most_records: usize) -> Vec<u8> {
     let (header, records) = any_archive_parts(rng, most_records);
     archive::build(&header, &records).expect("an archive")
+}
+
+/// How own counts go along an ill-kept archive.
+#[derive(Clone, Copy, Debug, PartialEq, Eq)]
+pub enum Kept {
+    /// They rise, equal ones together.
+    Rising,
+    /// They fall, equal ones together.
+    Falling,
+    /// They rise in pieces that are in no order.
+    Pieces,
+    /// They are in no order.
+    Shuffled,
+}
+
+impl Kept {
+    /// Every way.
+    pub const ALL: [Kept; 4] = [Kept::Rising, Kept::Falling, Kept::Pieces, Kept::Shuffled];
+}
+
+/// The header and so many records of an ill-kept archive, of the phases below
+/// `phases`.
+pub fn ill_kept_parts(
+    rng: &mut Rng,
+    kept: Kept,
+    phases: u32,
+    count: usize,
+) -> (Header, Vec<Record>) {
+    let mut header = any_ranged_header(rng);
+    header.stations = rng.range(2, 8) as u8;
+    header.ceiling = rng.pick(&[2, 9, 300, 65_535]);
+    let records = ill_kept_records(rng, &header, kept, phases, count);
+    (header, records)
+}
+
+/// So many records that a header admits, of the phases below `phases`. A station
+/// may have an own count more than once, and many records are unordered with
+/// many.
+pub fn ill_kept_records(
+    rng: &mut Rng,
+    header: &Header,
+    kept: Kept,
+    phases: u32,
+    count: usize,
+) -> Vec<Record> {
+    let records = (0..count).map(|_| ill_kept_record(rng, header, phases));
+    let mut records: Vec<Record> = records.collect();
+    match kept {
+        Kept::Shuffled => {}
+        Kept::Falling => records.sort_by_key(|record| Reverse(record.own_count())),
+        Kept::Rising | Kept::Pieces => records.sort_by_key(Record::own_count),
+    }
+    if kept == Kept::Pieces {
+        let length = 1 + rng.index(count / 3 + 1);
+        let mut pieces: Vec<&[Record]> = records.chunks(length).collect();
+        rng.shuffle(&mut pieces);
+        records = pieces.concat();
+    }
+    records
+}
+
+/// Half of them know of no other station, so that they are unordered with all
+/// such of others; the other half know a little.
+fn ill_kept_record(rng: &mut Rng, header: &Header, phases: u32) -> Record {
+    loop {
+        let Some(mut record) = admitted_record(rng, header) else {
+            continue;
+        };
+        record.phase = rng.below(u64::from(phases)) as u32;
+        let known = rng.pick(&[0, 2]);
+        for count in &mut record.counts[..header.n()] {
+            *count = rng.range(0, known) as u16;
+        }
+        let own = rng.range(1, u64::from(header.ceiling));
+        record.counts[usize::from(record.station)] = own as u16;
+        return record;
+    }
 }
 
 /// A way to damage an archive.

@@ -47,11 +47,11 @@ impl<'a> Head<'a> {
     fn is_sealed(&self) -> bool {
         let (rows, _) = self.block[..NAMED].as_chunks::<ROW>();
         let mut sums = Sums::default();
-        for row in rows.iter().rev() {
+        for row in rows {
             sums.add(&lanes(row));
         }
         let check = [self.block[CHECKED], self.block[CHECKED + 1]];
-        has_check(sums.weighted(1), check)
+        has_check(sums.weighted((NAMED - ROW) as u32 + 1), check)
     }
 
     pub(super) fn n(&self) -> usize {

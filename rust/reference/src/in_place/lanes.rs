@@ -16,10 +16,11 @@ pub(super) fn lanes(row: &[u8; ROW]) -> Lanes {
     std::array::from_fn(|j| u16::from_le_bytes([row[2 * j], row[2 * j + 1]]))
 }
 
-/// Sums of up to 16 rows by columns, taken from the last row to the first. A
-/// high sum has a row's bytes once for each row before it, so that no product
-/// is made. Whole columns are added, even + 256 × odd, beside their odd bytes:
-/// less 255 × odd that is even + odd, modulo 65,536, which is above both.
+/// Sums of up to 16 rows by columns, taken from the first row to the last, as
+/// memory is read fastest. A high sum has a row's bytes once for each row behind
+/// it, so that no product is made. Whole columns are added, even + 256 × odd,
+/// beside their odd bytes: less 255 × odd that is even + odd, modulo 65,536,
+/// which is above both.
 #[derive(Default)]
 pub(super) struct Sums {
     low: Lanes,
@@ -39,18 +40,19 @@ impl Sums {
         }
     }
 
-    /// The sum of the rows' bytes, each times its place, the first byte's being
-    /// `first`. The remainder changes nothing: it shows the compiler that the
-    /// product is small.
+    /// The sum of the rows' bytes, each times its place, that of the last row's
+    /// first byte being `last`: a row's places are less by its length than those
+    /// of the next. The remainder changes nothing: it shows the compiler that
+    /// the product is small.
     #[inline(always)]
-    pub(super) fn weighted(&self, first: u32) -> u32 {
+    pub(super) fn weighted(&self, last: u32) -> u32 {
         let mut sum = 0;
         for j in 0..COLUMNS {
             let (odd, odd_high) = (self.odd_low[j], self.odd_high[j]);
             let both = self.low[j].wrapping_sub(odd.wrapping_mul(255)) % 8192;
             let both_high = self.high[j].wrapping_sub(odd_high.wrapping_mul(255));
-            let at = first + 2 * j as u32;
-            sum += ROW as u32 * u32::from(both_high) + at * u32::from(both) + u32::from(odd);
+            let at = last + 2 * j as u32;
+            sum += at * u32::from(both) + u32::from(odd) - ROW as u32 * u32::from(both_high);
         }
         sum
     }

@@ -97,9 +97,7 @@ impl Seen {
         self.phase = self.phase.max(first);
         self.spare |= u64::from_le_bytes(words[1]);
         self.fronts |= fronts[place(front)] ^ front;
-        let at = 16 + 2 * usize::from(record[1] % 8);
-        let own = u16::from_le_bytes([record[at], record[at + 1]]);
-        self.own |= u32::from(own).wrapping_sub(1);
+        self.own |= u32::from(own_count_of(record)).wrapping_sub(1);
     }
 
     pub(super) fn fits(&self) -> bool {
@@ -117,15 +115,28 @@ pub(super) fn phase_of(record: &[u8; RECORD]) -> [u8; 4] {
     [record[4], record[5], record[6], record[7]]
 }
 
+/// The station. The remainder changes none that is right: it shows the compiler
+/// that the number is small.
+#[inline(always)]
+pub(super) fn station_of(record: &[u8; RECORD]) -> usize {
+    usize::from(record[1]) % MAX_STATIONS
+}
+
+#[inline(always)]
+pub(super) fn own_count_of(record: &[u8; RECORD]) -> u16 {
+    let at = 16 + 2 * station_of(record);
+    u16::from_le_bytes([record[at], record[at + 1]])
+}
+
 /// Whether the first has a count below the other's, and one above.
 #[inline(always)]
 pub(super) fn differ(first: &Counts, second: &Counts) -> (bool, bool) {
-    let (mut below, mut above) = (0, 0);
+    let (mut below, mut above) = (false, false);
     for k in 0..MAX_STATIONS {
-        below |= second[k].saturating_sub(first[k]);
-        above |= first[k].saturating_sub(second[k]);
+        below |= first[k] < second[k];
+        above |= first[k] > second[k];
     }
-    (below != 0, above != 0)
+    (below, above)
 }
 
 /// The verdict on two records' bytes, as [`crate::order::verdict`].
