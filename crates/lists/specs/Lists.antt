@@ -1,5 +1,6 @@
 -- Lists made of numbers. Assumes nothing.
-use Prim.Native.Nat.{ℕ, zero, suc, _+_, _<_}
+use Prim.Native.Nat.{ℕ, zero, suc, _+_, _<_, _≤_}
+use mathlib.Core.Path.{_≡_}
 use mathlib.Core.List.{List, [], _∷_, _++_}
 use mathlib.Core.Bool.{Bool, cond}
 use lib.Dec.{eqb}
@@ -30,3 +31,17 @@ count x l = sumOf (is x) l
 -- each element stands in a relation to all behind it
 abbrev pub Sorted : (ℕ → ℕ → Type 0) → List ℕ → Type 0
 Sorted R l = (i j : ℕ) → i < j → j < length l → R (getD l i 0) (getD l j 0)
+
+-- rising by r
+abbrev pub Up : (ℕ → ℕ) → List ℕ → Type 0
+Up r l = (i j : ℕ) → i < j → j < length l → r (getD l i 0) ≤ r (getD l j 0)
+
+-- a list put in order: as many elements, the same ones (every sum over them is the same, and so how often each stands there), rising
+pub record Arranged (r : ℕ → ℕ) (before after : List ℕ) : Type 0 where
+  pub size : length after ≡ length before
+  pub sums : (f : ℕ → ℕ) → sumOf f after ≡ sumOf f before
+  pub up : Up r after
+
+-- the order of the numbers themselves
+abbrev pub same : ℕ → ℕ
+same x = x

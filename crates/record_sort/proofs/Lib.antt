@@ -1,5 +1,2 @@
-pub mod Sums
-pub mod Heaps
-pub mod Ranks
 pub mod Packing
 pub mod Keys

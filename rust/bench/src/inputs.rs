@@ -172,11 +172,47 @@ pub fn archive_of(count: usize) -> Vec<u8> {
     archive_with(&run_records(count))
 }
 
+/// Records of eight stations that send nothing: all of other stations are
+/// unordered. A new phase begins after each 500,000, which is nearly all that a
+/// ceiling of 65,535 has room for.
+fn quiet_records(count: usize) -> Vec<Record> {
+    let mut rng = Rng::new(3);
+    let mut counts: [Counts; 8] = Default::default();
+    let record = |k| {
+        if k % 500_000 == 0 {
+            counts = Default::default();
+        }
+        let station = rng.index(8);
+        counts[station][station] += 1;
+        Record {
+            kind: Kind::Own,
+            station: station as u8,
+            peer: NO_PEER,
+            phase: (k / 500_000) as u32,
+            register: k as u32,
+            counts: counts[station],
+        }
+    };
+    (0..count).map(record).collect()
+}
+
+/// An archive of stations that send nothing.
+pub fn quiet_archive_of(count: usize) -> Vec<u8> {
+    archive_with(&quiet_records(count))
+}
+
 /// The same records from the last to the first: in each phase every station's
 /// own counts fall.
 pub fn falling_archive_of(count: usize) -> Vec<u8> {
-    let mut records = run_records(count);
+    let mut records = quiet_records(count);
     records.reverse();
+    archive_with(&records)
+}
+
+/// The same records in no order.
+pub fn shuffled_archive_of(count: usize) -> Vec<u8> {
+    let mut records = quiet_records(count);
+    Rng::new(4).shuffle(&mut records);
     archive_with(&records)
 }
 

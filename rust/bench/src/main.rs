@@ -308,15 +308,40 @@ fn archive_rows(is_wanted: impl Fn(&str) -> bool) {
 }
 
 fn unordered_rows(is_wanted: impl Fn(&str) -> bool) {
-    let (rising, falling): (Input, Input) = (inputs::archive_of, inputs::falling_archive_of);
-    let lists = [
-        ("unordered list of 1,000, per record", rising, 1_000),
-        ("unordered list of 10,000, per record", rising, 10_000),
-        ("unordered list of 100,000, per record", rising, 100_000),
-        ("unordered list of 1,000,000, per record", rising, 1_000_000),
+    let lists: [(&str, Input, usize); 7] = [
+        (
+            "unordered list of 1,000, per record",
+            inputs::archive_of,
+            1_000,
+        ),
+        (
+            "unordered list of 10,000, per record",
+            inputs::archive_of,
+            10_000,
+        ),
+        (
+            "unordered list of 100,000, per record",
+            inputs::archive_of,
+            100_000,
+        ),
+        (
+            "unordered list of 1,000,000, per record",
+            inputs::archive_of,
+            1_000_000,
+        ),
+        (
+            "unordered list of 1,000,000, nothing sent, per record",
+            inputs::quiet_archive_of,
+            1_000_000,
+        ),
         (
             "unordered list of 1,000,000, own counts falling, per record",
-            falling,
+            inputs::falling_archive_of,
+            1_000_000,
+        ),
+        (
+            "unordered list of 1,000,000, in no order, per record",
+            inputs::shuffled_archive_of,
             1_000_000,
         ),
     ];
