@@ -1,17 +1,17 @@
 -- The unordered list: each record once that is concurrent, sorted, and no other list is. Assumes nothing.
-use Prim.Native.Nat.{ℕ, _+_, _*_, _≤_, _<_}
-use mathlib.Core.Path.{_≡_, refl, _∙_, sym, ap}
-use mathlib.Core.Logic.{_↔_, _⊎_, inl, inr}
+use Prim.Native.Nat.{ℕ, _+_, _≤_, _<_}
+use mathlib.Core.Path.{_≡_, refl, _∙_, sym}
+use mathlib.Core.Logic.{_↔_, inl, inr}
 use mathlib.Core.List.{List, List·Memᴰ}
-use mathlib.Core.Bool.{Bool, true, false, _&&_, cond, true≢false}
+use mathlib.Core.Bool.{Bool, true, false, cond, true≢false}
 use native.Mathlib.Omega.{arith}
 use native.Mathlib.Decide.{ℕ-discrete, decLt}
 use lib.ListN.{length, getD}
 use borrow.Author.Tests.{eqb-true}
-use Rattle.codec.specs.Every.{countBelow, sum, greatest}
+use Rattle.codec.specs.Every.{greatest}
 use Rattle.codec.proofs.EveryLaws.{both}
 use Rattle.codec.proofs.SumLaws.{sum-same, greatest-at}
-use Rattle.lists.specs.Lists.{passing, joined, sumOf, is, count, Sorted}
+use Rattle.lists.specs.Lists.{passing, sumOf, is, count, Sorted}
 use Rattle.lists.specs.Places.{byClass}
 use Rattle.lists.proofs.PassingLaws.{passing-rises, passing-length}
 use Rattle.lists.proofs.JoinedLaws.{joined-sorted, joined-each}

@@ -2,7 +2,7 @@
 ghost use mathlib.Core.Path.{_≡_};
 ghost use mathlib.Core.Bool.{true};
 ghost use Prim.Native.Nat.{_<_};
-ghost use lib.ListN.{length};
+ghost use lib.ListN.{length, getD};
 ghost use Rattle.record.specs.Record.{parseRecord};
 ghost use Rattle.entries.specs.Entries.{recordOf};
 ghost use Rattle.archive.specs.Archive.{blockOf, blocks, archiveTest, records as recordsOf};
@@ -36,4 +36,14 @@ pub fn event_in(block: &[u8], k: usize) -> Record
     let s = entries::start_of(k);
     let e = s + 32;
     record::load(&block[s..e])
+}
+
+// The count of station s in record k of a block.
+pub fn count_in(block: &[u8], k: usize, s: usize) -> u16
+    requires { ⌜ (length (now block) ≡ 512) × (k < 15) × (s < 8) ⌝ }
+    ensures { λ r. ⌜ r ≡ getD (parseRecord (recordOf (now (block .entry)) k) .counts) s 0 ⌝ }
+{
+    let at = entries::start_of(k);
+    let e = at + 32;
+    codec::get16(&block[at..e], 16 + s * 2)
 }

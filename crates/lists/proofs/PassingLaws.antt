@@ -1,5 +1,5 @@
 -- Laws of `passing`: the numbers below a bound that pass a test, in rising order. Assumes nothing.
-use Prim.Native.Nat.{ℕ, _+_, _≤_, _<_}
+use Prim.Native.Nat.{ℕ, _+_, _<_}
 use mathlib.Core.Path.{_≡_, refl, _∙_, sym, ap}
 use mathlib.Core.Logic.{⊎-elim}
 use mathlib.Core.List.{List, [], _∷_, _++_}
@@ -10,7 +10,7 @@ use native.Mathlib.Nat.{eq-or-lt-of-le}
 use lib.ListN.{length, getD, length-append, List·getD-append}
 use lib.Seq.{getD-at}
 use Rattle.codec.specs.Every.{countBelow}
-use Rattle.codec.proofs.CountLaws.{grow, count-none, count-passed, count-failed, count-room, count-grows}
+use Rattle.codec.proofs.CountLaws.{grow, count-none, count-passed, count-failed, count-room}
 use Rattle.lists.specs.Lists.{passing}
 
 -- every element is below n and passes, and is below those behind it

@@ -1,4 +1,3 @@
-use denote.Ref.{now}
 use native.Mathlib.Omega.{arith}
 use Rattle.archive.specs.Archive.{blocks}
 use Rattle.events.proofs.Laws.{block-part}

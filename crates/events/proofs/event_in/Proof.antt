@@ -1,4 +1,3 @@
-use denote.Ref.{now}
 use Rattle.entries.proofs.Laws.{part-record}
 use borrow.Author.Needs.{needs}
 use Rattle.events.proofs.event_in.Statement.{statement}
