@@ -6,6 +6,7 @@ use mathlib.Core.Bool.{Bool, true, false, true≢false}
 use native.Mathlib.Omega.{arith}
 use native.Mathlib.Numerals.{add-one}
 use native.Mathlib.Nat.{eq-or-lt-of-le}
+use native.Mathlib.Decide.{decLt}
 use Rattle.codec.specs.Every.{countBelow}
 
 module _ (p : ℕ → Bool) where
@@ -82,6 +83,31 @@ module _ (p : ℕ → Bool) where
       ⊎-elim (λ (q : n ≡ m + 1). rw q) (λ (b : n < m + 1). absurd (true≢false (sym e ∙ h m (omega arith) (omega arith)))) (eq-or-lt-of-le {n = n} {m = m + 1} l))
       (λ (m : ℕ) (e : p m ≡ false) (g : n ≤ m → ((k : ℕ) → n ≤ k → k < m → p k ≡ false) → countBelow m p ≡ countBelow n p) (l : n ≤ m + 1) (h : (k : ℕ) → n ≤ k → k < m + 1 → p k ≡ false).
       ⊎-elim (λ (q : n ≡ m + 1). rw q) (λ (b : n < m + 1). omega (arith, count-failed m e, g (omega arith) (λ (k : ℕ) (x : n ≤ k) (y : k < m). h k x (omega arith)))) (eq-or-lt-of-le {n = n} {m = m + 1} l))
+
+  -- ---- which
+  abbrev Found : ℕ → Type 0
+  Found n = (k : ℕ) × (k < n) × (p k ≡ true)
+
+  -- one that is counted is there
+  pub count-found : (n : ℕ) → 1 ≤ countBelow n p → Found n
+  count-found =
+      grow (λ (n : ℕ). 1 ≤ countBelow n p → Found n) (λ h. absurd (omega (arith, count-none)))
+      (λ n e h l. (n, omega arith, e)) (λ n e h l. let f = h (omega (arith, count-failed n e)) in (f .0, let g = f .1 in omega arith, f .2))
+
+  -- one that is there is counted
+  pub count-has : (k n : ℕ) → k < n → p k ≡ true → 1 ≤ countBelow n p
+  count-has k n l e = omega (arith, count-room k n (countBelow n p) e l (omega arith))
+
+  -- where no two are there, no more than one is counted
+  pub count-single : (n : ℕ) → ((i j : ℕ) → i < j → j < n → p i ≡ true → p j ≡ true → ⊥) → countBelow n p ≤ 1
+  count-single =
+      grow (λ (n : ℕ). ((i j : ℕ) → i < j → j < n → p i ≡ true → p j ≡ true → ⊥) → countBelow n p ≤ 1) (λ h. omega (arith, count-none))
+      (λ n e h d. go n e d (decLt 0 (countBelow n p)))
+      (λ n e h d. omega (arith, count-failed n e, h (λ i j l m. d i j l (omega arith))))
+    where
+      go : (n : ℕ) → p n ≡ true → ((i j : ℕ) → i < j → j < n + 1 → p i ≡ true → p j ≡ true → ⊥) → Dec (0 < countBelow n p) → countBelow (n + 1) p ≤ 1
+      go n e d (yes l) = let f = count-found n (omega (arith, l)) in absurd (d (f .0) n (f .1) (omega arith) (f .2) e)
+      go n e d (no l) = omega (arith, l, count-passed n e)
 
 -- two tests that agree count the same
 pub count-same : (n : ℕ) (p q : ℕ → Bool) → ((k : ℕ) → k < n → p k ≡ q k) → countBelow n p ≡ countBelow n q

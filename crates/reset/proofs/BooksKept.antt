@@ -13,6 +13,7 @@ use Rattle.codec.proofs.SumLaws.{sum-zero, sum-grows}
 use Rattle.clock.specs.Timestamp.{tick, merged}
 use Rattle.clock.specs.Range.{lastPhase}
 use Rattle.clock.proofs.MergeLaws.{merged-most}
+use Rattle.codec.proofs.SomeLaws.{some-holds}
 use Rattle.reset.specs.Reach.{limit}
 use Rattle.reset.specs.Config.{Config, neighbours, limitAt, allowanceAt, networkRules}
 use Rattle.reset.specs.Receipts.{muted, messages}
@@ -21,7 +22,7 @@ use Rattle.reset.specs.Clock.{vector}
 use Rattle.reset.specs.State.{normal, mute, standBy, Item, message, resetReq, resetDone, Station, State, stationAt, linkAt, reqSeen, doneSeen, sentTo, setStation, setLink}
 use Rattle.reset.specs.Steps.{everyNeighbour, someNeighbour, begun, renewed, woken, beginReset, renew, wake, Rule, ruleA, ruleB, ruleC, noRule, ruleOf, apply, turnOnce, turn, entered, sending, maySend, doSend, receiving, doReceive}
 use Rattle.reset.proofs.Views.{zeros-at, station-set, station-set-link, station-put-all}
-use Rattle.reset.proofs.TurnLaws.{some-holds, Tested, rule-tested}
+use Rattle.reset.proofs.TurnLaws.{Tested, rule-tested}
 use Rattle.reset.proofs.Changes.{Tagged}
 use Rattle.reset.proofs.ClockRange.{AtMost}
 use Rattle.reset.proofs.Flow.{flow-reqs, flow-past}

@@ -9,6 +9,7 @@ use lib.ListN.{length}
 use borrow.Author.Tests.{eqb-true, leb-true, eq-eqb}
 use Rattle.codec.specs.Every.{every}
 use Rattle.codec.proofs.EveryLaws.{both, join, every-at, every-of}
+use Rattle.codec.proofs.SomeLaws.{some-fails}
 use Rattle.reset.specs.Config.{Config, isStation, neighbours, places}
 use Rattle.reset.specs.Receipts.{target, reqsTaken, donesTaken}
 use Rattle.reset.proofs.ConfigLaws.{Rules, neighbour-small}
@@ -21,7 +22,6 @@ use Rattle.reset.proofs.Flow.{Flow, flow-reqs, flow-dones}
 use Rattle.reset.proofs.Coherent.{Coherent}
 use Rattle.reset.proofs.Formed.{bounds}
 use Rattle.reset.proofs.StepLaws.{is-normal}
-use Rattle.reset.proofs.TurnLaws.{some-fails}
 use Rattle.reset.proofs.Views.{none-long}
 use Rattle.reset.proofs.Cases.{by-test, clash}
 

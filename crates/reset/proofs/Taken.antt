@@ -12,6 +12,7 @@ use borrow.Author.Tests.{eq-eqb, ne-eqb}
 use Rattle.codec.proofs.EveryLaws.{both}
 use Rattle.codec.proofs.PutLaws.{put-same}
 use Rattle.codec.proofs.SumLaws.{greatest-at, greatest-below}
+use Rattle.codec.proofs.SomeLaws.{some-holds}
 use Rattle.reset.specs.Config.{Config, neighbours}
 use Rattle.reset.specs.Clock.{Clock, vector}
 use Rattle.reset.specs.State.{Item, resetReq, resetDone, Station, State, stationAt, linkAt, reqSeen, setStation, setLink}
@@ -20,7 +21,7 @@ use Rattle.reset.specs.Network.{initial, log, run}
 use Rattle.reset.specs.Receipts.{muted, bit, target, greatestTarget, messages, reqsTaken, donesTaken, controlOf, controlsIn, ControlsTold}
 use Rattle.reset.proofs.ConfigLaws.{Rules, rules, station-below, neighbour-small}
 use Rattle.reset.proofs.Views.{none-at, station-set, station-set-link}
-use Rattle.reset.proofs.TurnLaws.{some-holds, Tested, rule-tested, station-apply}
+use Rattle.reset.proofs.TurnLaws.{Tested, rule-tested, station-apply}
 use Rattle.reset.proofs.Changes.{Tagged}
 use Rattle.reset.proofs.Flow.{flow-reqs, messages-append}
 use Rattle.reset.proofs.Invariant.{Invariant, Puts, TakesOff}

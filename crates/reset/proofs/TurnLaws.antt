@@ -19,22 +19,6 @@ unfolding some
 some-none zero r p h = refl
 some-none (suc n) r p h = rw (some-none n r p h, h n, and-false)
 
--- where no i has p, each one has it not
-pub some-fails : (n : ℕ) (p : ℕ → Bool) → some n p ≡ false → (i : ℕ) → i < n → p i ≡ false
-unfolding some
-some-fails zero p h i l = absurd (omega arith)
-some-fails (suc n) p h i l =
-    by-test (some n p) (λ e. clash (rw e at h))
-    (λ e. by-dec (ℕ-discrete i n) (λ q. rw q (rw e at h)) (λ q. some-fails n p e i (omega arith)))
-
--- where some i has p, there is one
-pub some-holds : (n : ℕ) (p : ℕ → Bool) → some n p ≡ true → (i : ℕ) × (i < n) × (p i ≡ true)
-unfolding some
-some-holds zero p h = clash (sym h)
-some-holds (suc n) p h =
-    by-test (some n p) (λ e. let r = some-holds n p e in (r .0, omega (arith, r .1), r .2))
-    (λ e. (n, omega arith, rw e at h))
-
 -- where some j has r and q, not every j that has r has p
 every-none : (n : ℕ) (r p q : ℕ → Bool) → ((j : ℕ) → p j ≡ false) → some n (λ j. r j && q j) ≡ true → every n (λ j. not (r j) || p j) ≡ false
 unfolding every some
