@@ -1,0 +1,4 @@
+pub mod KeyLaws
+pub mod RisingLaws
+pub mod WindowLaws
+pub mod DriverLaws

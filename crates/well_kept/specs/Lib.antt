@@ -1,0 +1,3 @@
+pub mod WellKept
+pub mod Keys
+pub mod Windows
