@@ -1,5 +1,6 @@
 pub mod Tables
 pub mod Order
+pub mod Between
 pub mod Trace
 pub mod TraceLaws
 pub mod TraceOrder

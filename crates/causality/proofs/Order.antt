@@ -1,7 +1,7 @@
 -- The vector clock theorem, with no network in it: over positions that have a station, a phase and counts, and edges between them, a position reaches
 -- another of its phase by edges exactly when none of its counts is greater. Assumes nothing.
 use Prim.Native.Nat.{ℕ, zero, suc, _≤_, _<_}
-use mathlib.Core.Path.{_≡_, refl, sym, subst}
+use mathlib.Core.Path.{_≡_, refl, sym}
 use mathlib.Core.Logic.{_≢_, _↔_, _⊎_, inl, inr, ⊎-elim}
 use native.Mathlib.Decide.{ℕ-discrete, decLt}
 use native.Mathlib.Omega.{arith}
@@ -28,6 +28,14 @@ pub record Clocked (n : ℕ) (station phase : ℕ → ℕ) (vc : ℕ → ℕ →
   -- a count of another station came along an edge
   pub from : (b k : ℕ) → b < n → k ≢ station b → zero < vc b k → (y : ℕ) × Edge y b × (phase y ≡ phase b) × (vc b k ≤ vc y k)
 
+-- b is a, or reached from it by edges
+abbrev pub AtOrAfter : (ℕ → ℕ → Type 0) → ℕ → ℕ → Type 0
+AtOrAfter Edge a b = (a ≡ b) ⊎ Chain Edge a b
+
+pub along : {Edge : ℕ → ℕ → Type 0} {a b c : ℕ} → AtOrAfter Edge a b → Chain Edge b c → Chain Edge a c
+along (inl p) d = rw p d
+along (inr c) d = join c d
+
 module _ {n : ℕ} {station phase : ℕ → ℕ} {vc : ℕ → ℕ → ℕ} {Edge : ℕ → ℕ → Type 0} (C : Clocked n station phase vc Edge) where
   chain-up : {a b : ℕ} → Chain Edge a b → a < b
   chain-up {a} {b} (edge e) = C .up a b e
@@ -37,17 +45,13 @@ module _ {n : ℕ} {station phase : ℕ → ℕ} {vc : ℕ → ℕ → ℕ} {Edg
   chain-ends {a} {b} (edge e) = C .ends a b e
   chain-ends (join p q) = chain-ends q
 
-  chain-later : {a b : ℕ} → Chain Edge a b → phase a ≤ phase b
+  pub chain-later : {a b : ℕ} → Chain Edge a b → phase a ≤ phase b
   chain-later {a} {b} (edge e) = C .later a b e
   chain-later (join p q) = omega (arith, chain-later p, chain-later q)
 
   -- a position's own count reaches another position of its phase only along a chain
   abbrev Back : ℕ → ℕ → Type 0
-  Back a b = b < n → phase a ≡ phase b → vc a (station a) ≤ vc b (station a) → (a ≡ b) ⊎ Chain Edge a b
-
-  along : {a y b : ℕ} → (a ≡ y) ⊎ Chain Edge a y → Edge y b → Chain Edge a b
-  along {b = b} (inl p) e = edge (subst (λ (z : ℕ). Edge z b) (sym p) e)
-  along (inr c) e = join c (edge e)
+  Back a b = b < n → phase a ≡ phase b → vc a (station a) ≤ vc b (station a) → AtOrAfter Edge a b
 
   below : (m a b : ℕ) → a < n → b < m → Back a b
   below zero a b al h bl p le = absurd (omega arith)
@@ -57,9 +61,9 @@ module _ {n : ℕ} {station phase : ℕ → ℕ} {vc : ℕ → ℕ → ℕ} {Edg
       (λ l. by-dec (decLt b a) (λ g. absurd (omega (arith, C .rise b a (station a) g al (sym t) refl (sym p)))) (λ g. inl (omega arith))))
       (λ t. let (y, e, q, l) = C .from b (station a) bl t (omega (arith, C .some a al)) in
       let k = C .up y b e in
-      inr (along (below m a y al (omega arith) (omega arith) (omega arith) (omega arith)) e))
+      inr (along (below m a y al (omega arith) (omega arith) (omega arith) (omega arith)) (edge e)))
 
-  back : (a b : ℕ) → a < n → Back a b
+  pub back : (a b : ℕ) → a < n → Back a b
   back a b al = below (suc b) a b al (omega arith)
 
   -- at the end of a chain within a phase the own count is greater than at its start
@@ -70,7 +74,7 @@ module _ {n : ℕ} {station phase : ℕ → ℕ} {vc : ℕ → ℕ → ℕ} {Edg
       (back b a (chain-ends c) (omega (arith, chain-up c, chain-ends c)) (sym p) (rw (← q) (omega arith)))))
 
   -- along a chain within a phase no count falls
-  chain-grow : {a b : ℕ} → Chain Edge a b → phase a ≡ phase b → (k : ℕ) → vc a k ≤ vc b k
+  pub chain-grow : {a b : ℕ} → Chain Edge a b → phase a ≡ phase b → (k : ℕ) → vc a k ≤ vc b k
   chain-grow {a} {b} (edge e) p k = by-dec (ℕ-discrete k (station b)) (λ q. omega (arith, chain-rise (edge e) p k q)) (C .grow a b e p k)
   chain-grow (join c d) p k =
       let l = chain-later c in

@@ -1,10 +1,11 @@
 -- Traces: lists of accepted entries in which every timestamp is made by the clock rule from the entries before it. Definitions alone. Assumes nothing.
-use Prim.Native.Nat.{ℕ, zero, suc, _+_, _≤_, _<_}
+use Prim.Native.Nat.{ℕ, zero, suc, _≤_, _<_}
 use mathlib.Core.Path.{_≡_}
 use mathlib.Core.List.{List, [], _∷_, _++_}
 use mathlib.Core.Bool.{Bool, cond, _&&_}
 use lib.Dec.{eqb}
 use lib.ListN.{getD, drop, length}
+use Rattle.codec.specs.Every.{countBelow}
 use Rattle.clock.specs.Timestamp.{zeros, tick, raised}
 use Rattle.reset.specs.Steps.{Step, enter, send, recv}
 use Rattle.causality.specs.Plain.{Message}
@@ -21,8 +22,7 @@ abbrev pub isOf : ℕ → ℕ → Accepted → Bool
 isOf i f x = eqb (x .entry .phase) f && eqb (x .entry .station) i
 
 abbrev pub entriesBefore : List Accepted → ℕ → ℕ → ℕ → ℕ
-entriesBefore E i f zero = 0
-entriesBefore E i f (suc y) = entriesBefore E i f y + cond (isOf i f (entryAt E y)) 1 0
+entriesBefore E i f y = countBelow y (λ (x : ℕ). isOf i f (entryAt E x))
 
 abbrev pub lastOf : List Accepted → ℕ → ℕ → ℕ → List ℕ
 lastOf E i f zero = zeros

@@ -9,6 +9,7 @@ use native.Mathlib.Decide.{ℕ-discrete, decLt, decLe}
 use lib.Dec.{eqb}
 use lib.ListN.{getD, length, length-replicate, List·getD-eq-default}
 use borrow.Author.Tests.{eqb-true, eq-eqb}
+use Rattle.codec.specs.Every.{countBelow}
 use Rattle.codec.proofs.EveryLaws.{both}
 use Rattle.codec.proofs.PutLaws.{put-same, put-other, put-keeps}
 use Rattle.clock.specs.Timestamp.{zeros, tick, merged, raised}
@@ -19,7 +20,7 @@ use Rattle.causality.specs.HappenedBefore.{Accepted, entryAt, phaseOf, t
 use Rattle.causality.specs.Sound.{ReceivedAsSent, OrderedByTimestamp}
 use Rattle.causality.proofs.Trace.{recordStation, isOf, entriesBefore, lastOf, countsBefore, received, Trace}
 use Rattle.causality.proofs.TraceLaws.{goes-one, by-follows, follows-station}
-use Rattle.causality.proofs.Order.{Chain, edge, join, Clocked, chain-rise, chain-exactly}
+use Rattle.causality.proofs.Order.{Chain, edge, join, Clocked, chain-later, chain-rise, chain-exactly}
 use Rattle.reset.proofs.Cases.{by-test, by-dec, clash}
 
 -- ---- counts of eight
@@ -44,10 +45,11 @@ pub data Edge (E : List Accepted) : ℕ → ℕ → Type 0 where
 abbrev pub vc : List Accepted → ℕ → ℕ → ℕ
 vc E x k = getD (timestampOf E x) k 0
 
-is-of : (E : List Accepted) (i f x : ℕ) → recordStation E x ≡ i → phaseOf E x ≡ f → isOf i f (entryAt E x) ≡ true
+-- entry x is of station i in phase f
+pub is-of : (E : List Accepted) (i f x : ℕ) → recordStation E x ≡ i → phaseOf E x ≡ f → isOf i f (entryAt E x) ≡ true
 is-of E i f x s p = rw (eq-eqb (phaseOf E x) f p, eq-eqb (recordStation E x) i s)
 
-of-is : (E : List Accepted) (i f x : ℕ) → isOf i f (entryAt E x) ≡ true → (recordStation E x ≡ i) × (phaseOf E x ≡ f)
+pub of-is : (E : List Accepted) (i f x : ℕ) → isOf i f (entryAt E x) ≡ true → (recordStation E x ≡ i) × (phaseOf E x ≡ f)
 of-is E i f x h = let t = both (eqb (phaseOf E x) f) _ h in (eqb-true _ _ (t .1), eqb-true _ _ (t .0))
 
 module _ (E : List Accepted) (T : List (List Message)) (R : Trace E T) where
@@ -66,7 +68,7 @@ module _ (E : List Accepted) (T : List (List Message)) (R : Trace E T) where
       (λ x xl g p t e. let k = merged-length (countsBefore E y) (timestampOf E x) in
       ap length e ∙ put-keeps 0 (merged (countsBefore E y) (timestampOf E x)) _ _ (omega arith) ∙ k ∙ b)
 
-  eight : (y : ℕ) → y < length E → length (timestampOf E y) ≡ 8
+  pub eight : (y : ℕ) → y < length E → length (timestampOf E y) ≡ 8
   eight y yl = lengths (suc y) y (omega arith) yl
 
   before-eight : (y : ℕ) → y < length E → length (countsBefore E y) ≡ 8
@@ -121,6 +123,7 @@ module _ (E : List Accepted) (T : List (List Message)) (R : Trace E T) where
 
   -- its own count is their number
   last-own : (i f m : ℕ) → m ≤ length E → getD (lastOf E i f m) i 0 ≡ entriesBefore E i f m
+  unfolding countBelow
   last-own i f zero l = zeros-at i
   last-own i f (suc m) l =
       let r = last-own i f m (omega arith) in
@@ -197,6 +200,10 @@ module _ (E : List Accepted) (T : List (List Message)) (R : Trace E T) where
   from-chain (edge (stationed l m e)) = same-station l m (follows-station (R .follows _ (omega arith)) ∙ e ∙ sym (follows-station (R .follows _ m)))
   from-chain (edge (messaged g)) = sent-received g
   from-chain (join h k) = chain (from-chain h) (from-chain k)
+
+  -- it never goes back in phase
+  pub never-back : {x y : ℕ} → HappenedBefore E x y → phaseOf E x ≤ phaseOf E y
+  never-back h = chain-later clocked (to-chain h)
 
   -- happened-before within a phase is timestamp order
   pub by-timestamp : OrderedByTimestamp E

@@ -174,8 +174,21 @@ fn list(a: &[u8], s: &[u8]) {
     check_vectors::end();
 }
 
+// The verdict on two found records; a record that is not found is refused as the archive refuses it.
+fn found_verdict(a: &[u8], first: usize, second: usize) -> Compared {
+    let k = archive::find(a, first);
+    if k != 0 {
+        return Compared::Refused(k);
+    }
+    let l = archive::find(a, second);
+    if l != 0 {
+        return Compared::Refused(l);
+    }
+    verdict::compare(archive::found(a, first), archive::found(a, second))
+}
+
 fn order(a: &[u8], first: usize, second: usize) {
-    match concurrent::order_of(a, first, second) {
+    match found_verdict(a, first, second) {
         Compared::Ordered(v) => match v {
             Verdict::Before => {
                 io::write_all(1, b" before");

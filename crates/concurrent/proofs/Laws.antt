@@ -1,4 +1,4 @@
--- Concurrent records of an archive: the relation, its lists, and the verdict by numbers. Assumes nothing.
+-- Concurrent records of an archive: the relation and its lists. Assumes nothing.
 use Prim.Native.Nat.{ℕ, _≤_, _<_}
 use mathlib.Core.Path.{_≡_, refl, _∙_, sym}
 use mathlib.Core.Logic.{_↔_}
@@ -15,15 +15,11 @@ use Rattle.clock.specs.declared.Verdict.{Verdict}
 use Rattle.clock.specs.declared.Verdict.the-variants.{Before, After, Same, Unordered}
 use Rattle.clock.proofs.OrderLaws.{verdict-mirror, verdict-unordered}
 use Rattle.record.specs.declared.Record.{Record}
-use Rattle.archive.specs.Archive.{archiveTest, records, recordAt, findRecord, foundRecord}
-use Rattle.verdict.specs.Compare.{verdictOn, verdictOfBytes}
-use Rattle.verdict.specs.declared.Compared.the-variants.{Ordered, Refused}
+use Rattle.archive.specs.Archive.{archiveTest, records}
 use Rattle.events.specs.Events.{eventAt}
 use Rattle.concurrent.specs.Unordered.{isUnorderedVerdict, concurrent, hasConcurrent, isUnordered, unorderedCount, listAnswer, unorderedAnswer, Lists}
-use Rattle.concurrent.specs.ByNumber.{orderOf}
 use Rattle.archive.specs.declared.Counted.the-variants.{Count}
 use Rattle.archive.specs.declared.Counted.the-variants as listed
-use Rattle.archive.proofs.Tested.{record-well-made}
 
 -- ---- two events
 unordered-verdict : (v : Verdict) → isUnorderedVerdict v ≡ true → v ≡ Unordered
@@ -122,33 +118,3 @@ count-fits a r places n e = go (archiveTest a) (ltb r (records a)) (ltb places (
     go true false v h q = let z : _≡_ {A = ℕ} 0 1 = cc in absurd (omega arith)
     go true true true h q = let z : _≡_ {A = ℕ} 0 1 = cc in absurd (omega arith)
     go true true false h q = let z : n ≡ unorderedCount a r = cc in omega (arith, ltb-false places (unorderedCount a r) h)
-
--- ---- the verdict by numbers
-pub found-is : (a : List ℕ) (k : ℕ) → archiveTest a ≡ true → k < records a → foundRecord a k ≡ recordAt a k
-unfolding foundRecord findRecord
-found-is a k t l = rw (t, lt-ltb k (records a) l)
-
--- on a tested archive, by phases and counts
-pub order-is : (a : List ℕ) (i j : ℕ) → archiveTest a ≡ true → i < records a → j < records a
-    → orderOf a i j ≡ cond (eqb (eventAt a i .phase) (eventAt a j .phase)) (Ordered (verdictOf (eventAt a i .counts) (eventAt a j .counts))) (Refused 10)
-unfolding orderOf verdictOn verdictOfBytes eventAt
-order-is a i j t l m =
-    rw (t, lt-ltb i (records a) l, lt-ltb j (records a) m, found-is a i t l, found-is a j t m, record-well-made a t i l, record-well-made a t j m)
-
--- records of one phase: the verdict on their timestamps
-pub order-one-phase : (a : List ℕ) (i j : ℕ) → archiveTest a ≡ true → i < records a → j < records a → eventAt a i .phase ≡ eventAt a j .phase
-    → orderOf a i j ≡ Ordered (verdictOf (eventAt a i .counts) (eventAt a j .counts))
-order-one-phase a i j t l m e = order-is a i j t l m ∙ rw (eq-eqb _ _ e)
-
--- of two phases: 10
-pub order-two-phases : (a : List ℕ) (i j : ℕ) → archiveTest a ≡ true → i < records a → j < records a → (eventAt a i .phase ≡ eventAt a j .phase → ⊥) → orderOf a i j ≡ Refused 10
-order-two-phases a i j t l m d = order-is a i j t l m ∙ rw (ne-eqb _ _ d)
-
--- a record is listed exactly when the verdict by numbers is unordered
-pub listed-by-order : (a : List ℕ) (r k : ℕ) → archiveTest a ≡ true → r < records a → k < records a → (isUnordered a r k ≡ true) ↔ (orderOf a r k ≡ Ordered Unordered)
-unfolding concurrent
-listed-by-order a r k t l m = rw (unordered-is a r k m, order-is a r k t l m) (go (eqb (eventAt a r .phase) (eventAt a k .phase)) (verdictOf (eventAt a r .counts) (eventAt a k .counts)))
-  where
-    go : (e : Bool) (v : Verdict) → ((e && isUnorderedVerdict v) ≡ true) ↔ (cond e (Ordered v) (Refused 10) ≡ Ordered Unordered)
-    go true v = (λ (h : isUnorderedVerdict v ≡ true). rw (unordered-verdict v h), λ (h : Ordered v ≡ Ordered Unordered). let q : v ≡ Unordered = cc in rw q)
-    go false v = (λ (h : false ≡ true). absurd (true≢false (sym h)), λ (h : Refused 10 ≡ Ordered Unordered). let z : _≡_ {A = ℕ} 0 1 = cc in absurd (omega arith))

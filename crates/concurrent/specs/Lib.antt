@@ -1,3 +1,2 @@
 pub mod Unordered
 pub mod Tally
-pub mod ByNumber

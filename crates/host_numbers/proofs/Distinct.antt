@@ -22,6 +22,8 @@ use Rattle.archive.specs.Archive.{archiveTest, records, countRecords}
 use Rattle.archive.specs.declared.Counted.{Counted}
 use Rattle.archive.specs.declared.Counted.the-variants.{Count, Refused as NotCounted}
 use Rattle.concurrent.specs.Unordered.{unorderedCount, listAnswer, unorderedAnswer}
+use Rattle.well_kept.specs.WellKept.{wellKept}
+use Rattle.phase_order.specs.ByNumber.{orderOf}
 use Rattle.reset.specs.Network.{quiescent}
 use Rattle.reset.specs.Receipts.{receiptsToRest}
 use Rattle.reset.specs.Config.{Config}
@@ -180,6 +182,16 @@ verdict-back a b =
 
 pub verdicts-distinct : (a b c d : List ℕ) → verdictNumber (verdictOn a b) ≡ verdictNumber (verdictOn c d) → verdictOn a b ≡ verdictOn c d
 verdicts-distinct a b c d = one verdictNumber verdictAt _ _ (verdict-back a b) (verdict-back c d)
+
+-- by number, in an archive
+order-of-back : (a : List ℕ) (i j : ℕ) → Back verdictNumber verdictAt (orderOf a i j)
+unfolding orderOf
+order-of-back a i j =
+    by-test (Back verdictNumber verdictAt) (archiveTest a)
+    (by-test (Back verdictNumber verdictAt) (ltb i (records a) && ltb j (records a)) (by-test (Back verdictNumber verdictAt) (wellKept a) (order-back _) refl) refl) refl
+
+pub orders-distinct : (a b : List ℕ) (i j k l : ℕ) → verdictNumber (orderOf a i j) ≡ verdictNumber (orderOf b k l) → orderOf a i j ≡ orderOf b k l
+orders-distinct a b i j k l = one verdictNumber verdictAt _ _ (order-of-back a i j) (order-of-back b k l)
 
 -- ---- an entries block read, whose count is at most 15
 abbrev blockAt : ℕ → EntriesRead

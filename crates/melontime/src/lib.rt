@@ -4,6 +4,7 @@ ghost use lib.ListN.{length};
 ghost use Rattle.archive.specs.Archive.{countRecords};
 ghost use Rattle.reset.specs.Steps.{enter as Enter, send as Send, recv as Recv, start as Start};
 ghost use Rattle.verdict.specs.Compare.{verdictOn};
+ghost use Rattle.phase_order.specs.ByNumber.{orderOf};
 ghost use Rattle.entries.specs.Entries.{writeEntries, readEntries, readRecord};
 ghost use Rattle.area_calls.specs.Calls.{setupOn, restOn, receiptsOn};
 ghost use Rattle.host_numbers.specs.Numbers.{recordLength, blockNumber, restNumber, receiptsNumber, verdictNumber, countedNumber, codeNumber};
@@ -191,4 +192,11 @@ pub extern "C" fn melontime_unordered(archive: &[u8], number: u64, list: &mut [u
     ensures { λ r. ⌜ HostList (now (archive .entry)) number (now (list .entry)) (now (list .exit)) r ⌝ }
 {
     host_numbers::counted_number(concurrent::unordered(archive, number as usize, list))
+}
+
+#[no_mangle]
+pub extern "C" fn melontime_archive_verdict(archive: &[u8], first: u64, second: u64) -> u64
+    ensures { λ r. ⌜ r ≡ verdictNumber (orderOf (now (archive .entry)) first second) ⌝ }
+{
+    host_numbers::verdict_number(phase_order::order_of(archive, first as usize, second as usize))
 }

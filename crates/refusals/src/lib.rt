@@ -1,4 +1,4 @@
-// The numbers of refusals, each with its cause, as document 01's table has them; 9 is none (document 02).
+// The numbers of refusals, each with its cause, as document 01's table has them; 9 is none, and 13 is document 02's.
 
 // A block, record or archive of a wrong length, check, field or spare byte.
 pub const MALFORMED: u8 = 1;
@@ -33,3 +33,6 @@ pub const BUFFER_LENGTH: u8 = 11;
 
 // No such record in the block or archive; a block of 0 or over 15 records.
 pub const NO_SUCH_RECORD: u8 = 12;
+
+// In some phase of the archive the own counts of a station are not 1, 2, 3 .., each once.
+pub const ILL_KEPT: u8 = 13;

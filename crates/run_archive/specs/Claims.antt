@@ -17,7 +17,8 @@ use Rattle.block_test.specs.BlockTest.{recordKnown}
 use Rattle.archive.specs.Archive.{archiveTest, records, recordAt}
 use Rattle.verdict.specs.declared.Compared.the-variants.{Ordered}
 use Rattle.concurrent.specs.Unordered.{isUnordered, unorderedList}
-use Rattle.concurrent.specs.ByNumber.{orderOf}
+use Rattle.well_kept.specs.WellKept.{wellKept}
+use Rattle.phase_order.specs.ByNumber.{orderOf}
 use Rattle.reset.specs.Config.{Config, wellMade, networkRules}
 use Rattle.reset.specs.Clock.{vector}
 use Rattle.reset.specs.Steps.{Step, Entry}
@@ -52,7 +53,7 @@ pub record Archived (c : Config) (E : List Accepted) : Type 0 where
 abbrev pub Apart : List Accepted → ℕ → ℕ → Type 0
 Apart E x y = (HappenedBefore E x y → ⊥) × (HappenedBefore E y x → ⊥) × (x ≢ y)
 
--- the verdict by number on two entries of one phase is that of happened-before
+-- the verdict by number on two entries, of one phase or of two, is that of happened-before
 pub record Verdicts (a : List ℕ) (E : List Accepted) (x y : ℕ) : Type 0 where
   pub before : (orderOf a x y ≡ Ordered Before) ↔ HappenedBefore E x y
   pub after : (orderOf a x y ≡ Ordered After) ↔ HappenedBefore E y x
@@ -63,9 +64,10 @@ pub record Verdicts (a : List ℕ) (E : List Accepted) (x y : ℕ) : Type 0 wher
 abbrev pub Beside : List Accepted → ℕ → ℕ → Type 0
 Beside E x y = (y < length E) × (phaseOf E x ≡ phaseOf E y) × Apart E x y
 
--- those are what the test of unordered records finds, and what a list of them has
+-- the archive is well kept; every two entries have that verdict; and those beside an entry are what the test of unordered records finds, and what its list has
 pub record Tells (a : List ℕ) (E : List Accepted) : Type 0 where
-  pub verdicts : (x y : ℕ) → x < length E → y < length E → phaseOf E x ≡ phaseOf E y → Verdicts a E x y
+  pub kept : wellKept a ≡ true
+  pub verdicts : (x y : ℕ) → x < length E → y < length E → Verdicts a E x y
   pub listed : (x y : ℕ) → x < length E → (isUnordered a x y ≡ true) ↔ Beside E x y
   pub lists : (x y : ℕ) → x < length E → List·Memᴰ y (unorderedList a x) ↔ Beside E x y
 

@@ -1,0 +1,3 @@
+pub mod PassLaws
+pub mod ReachLaws
+pub mod Laws

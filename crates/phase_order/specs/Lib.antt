@@ -1,0 +1,3 @@
+pub mod PhaseOrder
+pub mod ByNumber
+pub mod Passes
