@@ -1,6 +1,7 @@
 /* The worked listing of document 01 from C: its steps, the archive of its
-   entries, what the archive answers, the order of a list, a network that is laid
-   up, and every refusal. What it prints is held to listing.out. */
+   entries, what the archive answers, the order of events across the reset, the
+   order of a list, a network that is laid up, and every refusal. What it prints is
+   held to listing.out. */
 #include <inttypes.h>
 #include <stdio.h>
 #include <stdlib.h>
@@ -149,6 +150,44 @@ static void read_archive(void) {
     }
 }
 
+/* The order of all entries, across the reset too. */
+static void try_archive_verdicts(void) {
+    for (size_t k = 0; k < count; k++) {
+        const uint8_t *record = records + MELONTIME_RECORD * k;
+        printf("record %zu: station %u, phase %" PRIu32 "; in the archive", k, record[1], long_at(record + 4));
+        for (size_t j = 0; j < count; j++) {
+            uint64_t answer = melontime_archive_verdict(archive, sizeof archive, k, j);
+            must(answer >= MELONTIME_VERDICT_BEFORE, "there is an order");
+            print_verdict(answer);
+        }
+        printf("\n");
+    }
+}
+
+/* Two stations make an entry each, reset, and make one each; nothing is sent. Then
+   only a station's own course tells an order across the reset. */
+static void try_quiet_reset(void) {
+    static const struct step steps[] = {
+        {ENTER, 0, 0, 1}, {ENTER, 1, 0, 2}, {START, 0, 0, 0}, {RECV, 1, 0, 0}, {RECV, 0, 1, 0},
+        {RECV, 1, 0, 0},  {RECV, 0, 1, 0},  {ENTER, 0, 0, 3}, {ENTER, 1, 0, 4},
+    };
+    uint8_t blocks[2 * MELONTIME_BLOCK], events[4 * MELONTIME_RECORD];
+    size_t entries = 0;
+    uint64_t answer;
+    memcpy(blocks, archive, MELONTIME_BLOCK);
+    answer = melontime_setup(blocks, MELONTIME_BLOCK, area, sizeof area);
+    must(answer == MELONTIME_DONE, "setup is accepted");
+    for (size_t k = 0; k < sizeof steps / sizeof steps[0]; k++)
+        entries += MELONTIME_IS_ENTRY(take(steps[k], events + MELONTIME_RECORD * entries));
+    must(entries == 4, "each entry is accepted");
+    answer = melontime_write_entries(1, events, sizeof events, blocks + MELONTIME_BLOCK, MELONTIME_BLOCK);
+    must(answer == MELONTIME_DONE, "the entries are written");
+    printf("nothing sent, across the reset:");
+    for (uint64_t k = 0; k < 4; k++)
+        print_verdict(melontime_archive_verdict(blocks, sizeof blocks, k % 2, 2 + k / 2));
+    printf("\n");
+}
+
 enum { BACKWARDS = 4 };
 
 /* An archive of three stations that send nothing. The last record is of station 2;
@@ -265,6 +304,18 @@ static void try_news(void) {
     must(!MELONTIME_IS_ENTRY(take((struct step){START, 1, 0, 0}, event)), "a refusal is no entry");
 }
 
+/* An archive that lacks the first entry, which counts 1 for its station. */
+static void try_ill_kept(void) {
+    uint8_t blocks[2 * MELONTIME_BLOCK];
+    uint64_t answer;
+    memcpy(blocks, archive, MELONTIME_BLOCK);
+    answer = melontime_write_entries(1, records + MELONTIME_RECORD, MELONTIME_RECORD * (count - 1),
+                                     blocks + MELONTIME_BLOCK, MELONTIME_BLOCK);
+    must(answer == MELONTIME_DONE, "the entries are written");
+    refused("a verdict where the first entry is missing", melontime_archive_verdict(blocks, sizeof blocks, 1, 2),
+            MELONTIME_REFUSED_ILL_KEPT);
+}
+
 static void try_refusals(void) {
     uint8_t block[MELONTIME_BLOCK], event[MELONTIME_RECORD];
     uint8_t *station_0 = area + 512;
@@ -314,12 +365,15 @@ static void try_refusals(void) {
     refused("a record behind the last",
             melontime_found_record(archive, sizeof archive, count, event, sizeof event),
             MELONTIME_REFUSED_NO_SUCH_RECORD);
+    refused("a verdict on a record behind the last",
+            melontime_archive_verdict(archive, sizeof archive, 0, count), MELONTIME_REFUSED_NO_SUCH_RECORD);
     refused("a list without a place", melontime_unordered(archive, sizeof archive, count - 1, one_place, 0),
             MELONTIME_REFUSED_AREA_LENGTH);
     refused("a block of no records", melontime_write_entries(1, records, 0, block, sizeof block),
             MELONTIME_REFUSED_NO_SUCH_RECORD);
     refused("a block of number 0", melontime_write_entries(0, records, MELONTIME_RECORD, block, sizeof block),
             MELONTIME_REFUSED_MALFORMED);
+    try_ill_kept();
     archive[MELONTIME_BLOCK + 100] ^= 1;
     refused("an archive with a changed bit", melontime_archive_records(archive, sizeof archive),
             MELONTIME_REFUSED_MALFORMED);
@@ -334,6 +388,8 @@ int main(void) {
     must(melontime_rest(area, sizeof area) == MELONTIME_REST_YES, "the network is at rest");
     write_archive();
     read_archive();
+    try_archive_verdicts();
+    try_quiet_reset();
     try_list_order();
     try_rest();
     try_receipts_to_rest();

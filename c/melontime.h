@@ -51,7 +51,8 @@ enum {
     MELONTIME_REFUSED_LAST_PHASE = 8,        /* start in phase 999,999 */
     MELONTIME_REFUSED_DIFFERENT_PHASES = 10, /* a verdict on records of different phases */
     MELONTIME_REFUSED_AREA_LENGTH = 11,      /* a buffer or list too small, or not as long as asked */
-    MELONTIME_REFUSED_NO_SUCH_RECORD = 12    /* no record of this number; 0 or over 15 records to write */
+    MELONTIME_REFUSED_NO_SUCH_RECORD = 12,   /* no record of this number; 0 or over 15 records to write */
+    MELONTIME_REFUSED_ILL_KEPT = 13          /* own counts in a phase that are not 1, 2, 3 .., each once */
 };
 
 /* Answers that are no refusal. */
@@ -166,6 +167,14 @@ uint64_t melontime_found_record(const uint8_t *archive, size_t archive_length, u
    rising; records that have both in common, in an ill-kept archive, by number. */
 uint64_t melontime_unordered(const uint8_t *archive, size_t archive_length, uint64_t number, uint64_t *list,
                              size_t list_length);
+
+/* The order of two events of any phases, by the numbers of their records in an
+   archive that is well kept: the own counts of each station in each phase are 1,
+   2, 3 .., each once, in whichever order the records stand. In the archive of all
+   entries of a network since setup, an event is before another where messages and
+   each station's own course lead from one to the other, across resets too. */
+uint64_t melontime_archive_verdict(const uint8_t *archive, size_t archive_length, uint64_t first,
+                                   uint64_t second);
 
 #ifdef __cplusplus
 }

@@ -216,6 +216,122 @@ pub fn shuffled_archive_of(count: usize) -> Vec<u8> {
     archive_with(&records)
 }
 
+/// What a station does next.
+enum Next {
+    Own(usize),
+    Send(usize, usize),
+    Receive,
+}
+
+/// Eight stations in two groups of four.
+struct Groups {
+    rng: Rng,
+    counts: [Counts; 8],
+    /// Messages under way: from, to, register number and timestamp.
+    sent: Vec<(usize, usize, u32, Counts)>,
+}
+
+impl Groups {
+    /// Something at random, where a message stays in its group. By the end of a
+    /// phase, which so many records are still to come before, each is received.
+    fn choose(&mut self, to_come: usize) -> Next {
+        let under_way = self.sent.len();
+        let station = self.rng.index(8);
+        match self.rng.below(3) {
+            _ if under_way > to_come => Next::Receive,
+            0 if under_way > 0 => Next::Receive,
+            1 if under_way < to_come => {
+                let to = station / 4 * 4 + (station + 1 + self.rng.index(3)) % 4;
+                Next::Send(station, to)
+            }
+            _ => Next::Own(station),
+        }
+    }
+
+    fn record(&mut self, phase: usize, next: Next) -> Record {
+        let mut register = any_register(&mut self.rng);
+        let (kind, station, peer) = match next {
+            Next::Own(station) => (Kind::Own, station, NO_PEER),
+            Next::Send(from, to) => (Kind::Sent, from, to as u8),
+            Next::Receive => {
+                let number = self.rng.index(self.sent.len());
+                let (from, to, its_register, its) = self.sent.swap_remove(number);
+                register = its_register;
+                for (count, its) in self.counts[to].iter_mut().zip(its) {
+                    *count = (*count).max(its);
+                }
+                (Kind::Received, to, from as u8)
+            }
+        };
+        self.counts[station][station] += 1;
+        let counts = self.counts[station];
+        if let Next::Send(from, to) = next {
+            self.sent.push((from, to, register, counts));
+        }
+        Record {
+            kind,
+            station: station as u8,
+            peer,
+            phase: phase as u32,
+            register,
+            counts,
+        }
+    }
+}
+
+/// Records of a run of phases of one length. One message goes from the first
+/// group to the second, three quarters of the way along, and none back.
+fn phased_records(count: usize, phases: usize) -> Vec<Record> {
+    let mut groups = Groups {
+        rng: Rng::new(5),
+        counts: Default::default(),
+        sent: Vec::new(),
+    };
+    let length = count / phases;
+    let mut records = Vec::with_capacity(count);
+    for phase in 0..phases {
+        groups.counts = Default::default();
+        for to_come in (0..length).rev() {
+            let next = match phase == phases * 3 / 4 && to_come == length - 1 {
+                true => Next::Send(3, 4),
+                false => groups.choose(to_come),
+            };
+            records.push(groups.record(phase, next));
+        }
+    }
+    records
+}
+
+/// An archive and two of its records.
+pub struct Pair {
+    pub bytes: Vec<u8>,
+    pub first: usize,
+    pub second: usize,
+}
+
+/// An archive of so many records in so many phases, in list order or in none, and
+/// a pair of records in phases far apart. The first is the first group's last in
+/// phase 0, of which no other station knows there; the other stations of the group
+/// join in the phases behind. The second is the second group's last in the last
+/// phase: the first precedes it by the one message between the groups and by what
+/// joined behind it, so that no phase before that decides.
+pub fn pair_of_phases(count: usize, phases: usize, shuffled: bool) -> Pair {
+    let mut records = phased_records(count, phases);
+    let of_first = |record: &Record| record.phase == 0 && record.station < 4;
+    let first = records.iter().copied().rfind(of_first).expect("a record");
+    let of_second = |record: &Record| record.station >= 4;
+    let second = records.iter().copied().rfind(of_second).expect("a record");
+    if shuffled {
+        Rng::new(6).shuffle(&mut records);
+    }
+    let number = |wanted| records.iter().position(|record| *record == wanted);
+    Pair {
+        bytes: archive_with(&records),
+        first: number(first).expect("it is there"),
+        second: number(second).expect("it is there"),
+    }
+}
+
 /// Bytes that differ from an archive in their last block only, where a count of
 /// the last record is above t: they are refused once all of them are read.
 pub fn hostile_archive(count: usize) -> Vec<u8> {

@@ -20,9 +20,10 @@ use std::hint::black_box;
 
 use comparison::{counted, judged, library_step};
 use melontime::raw;
-use reference::in_place::{self, archives as placed};
+use reference::in_place::{self, archives as placed, between_phases as placed_phases};
 use reference::network::{Step, AREA};
-use reference::{archive, area, order};
+use reference::order::Verdict;
+use reference::{archive, area, between_phases, order};
 
 use measure::{print_head, print_row, sides};
 
@@ -260,6 +261,39 @@ fn unordered_row(what: &str, bytes: &[u8]) {
     print_row(what, count as f64, library, others);
 }
 
+/// A row of the verdict on two records of an archive, whatever their phases. Each
+/// side tests the archive and sees that it is well kept.
+fn across_phases_row(what: &str, count: usize, pair: &inputs::Pair) {
+    let inputs::Pair { first, second, .. } = *pair;
+    let bytes = &pair.bytes[..];
+    let ours = |bytes| raw::archive_verdict(bytes, first as u64, second as u64);
+    assert_eq!(ours(bytes), judged(Ok(Verdict::Before)));
+    assert_eq!(
+        between_phases::verdict(bytes, first, second),
+        Ok(Verdict::Before)
+    );
+    assert_eq!(
+        placed_phases::verdict(bytes, first, second),
+        Ok(Verdict::Before)
+    );
+    let [library, rust, place, plain] = sides([
+        &mut || {
+            black_box(ours(black_box(bytes)));
+        },
+        &mut || {
+            let _ = black_box(between_phases::verdict(black_box(bytes), first, second));
+        },
+        &mut || {
+            let _ = black_box(placed_phases::verdict(black_box(bytes), first, second));
+        },
+        &mut || {
+            black_box(read(black_box(bytes)));
+        },
+    ]);
+    let others = [Some(rust), Some(place), Some(plain)];
+    print_row(what, count as f64, library, others);
+}
+
 fn steps_rows(is_wanted: impl Fn(&str) -> bool) {
     let (idle, busy) = (inputs::idle_area(), inputs::busy_area());
     let lists = [
@@ -352,6 +386,63 @@ fn unordered_rows(is_wanted: impl Fn(&str) -> bool) {
     }
 }
 
+fn across_phases_rows(is_wanted: impl Fn(&str) -> bool) {
+    const MILLION: usize = 1_000_000;
+    let rows = [
+        (
+            "verdict across 100 phases, 1,000 records, per record",
+            1_000,
+            100,
+            false,
+        ),
+        (
+            "verdict across 100 phases, 10,000 records, per record",
+            10_000,
+            100,
+            false,
+        ),
+        (
+            "verdict across 100 phases, 100,000 records, per record",
+            100_000,
+            100,
+            false,
+        ),
+        (
+            "verdict across 100 phases, 1,000,000 records, per record",
+            MILLION,
+            100,
+            false,
+        ),
+        (
+            "verdict across 100,000 phases, 1,000,000 records, per record",
+            MILLION,
+            100_000,
+            false,
+        ),
+        (
+            "verdict across 100 phases, 1,000,000 records in no order, per record",
+            MILLION,
+            100,
+            true,
+        ),
+        (
+            "verdict across 100,000 phases, 1,000,000 records in no order, per record",
+            MILLION,
+            100_000,
+            true,
+        ),
+    ];
+    for (what, count, phases, shuffled) in rows {
+        if is_wanted(what) {
+            across_phases_row(
+                what,
+                count,
+                &inputs::pair_of_phases(count, phases, shuffled),
+            );
+        }
+    }
+}
+
 fn main() -> std::io::Result<()> {
     if programs::is_reference() {
         return programs::run_reference();
@@ -374,5 +465,6 @@ fn main() -> std::io::Result<()> {
     }
     archive_rows(is_wanted);
     unordered_rows(is_wanted);
+    across_phases_rows(is_wanted);
     programs::turnover_rows(&wanted)
 }

@@ -11,7 +11,7 @@ use reference::network::{Answer, Mode, Outcome, Step};
 use reference::order::Verdict;
 use reference::random::Rng;
 use reference::refusal::Refusal;
-use reference::{area, in_place};
+use reference::{area, between_phases, in_place};
 
 fn variable(name: &str) -> Option<u64> {
     let text = env::var(name).ok()?;
@@ -53,6 +53,12 @@ pub fn cases(test: &str, count: u64, run: impl Fn(&mut Rng)) {
             name.wrapping_add(seed.wrapping_mul(0x2545_f491_4f6c_dd1d)),
         ));
     }
+}
+
+/// Whether the tests take as many seeds as they mean to: what all cases together
+/// are to meet, one alone need not.
+pub fn all_cases() -> bool {
+    variable("MELONTIME_CASES").is_none()
 }
 
 /// The number of a refusal.
@@ -99,6 +105,20 @@ pub fn judged(result: Result<Verdict, Refusal>) -> u64 {
         Verdict::Same => 102,
         Verdict::Unordered => 103,
     })
+}
+
+/// The verdict on two records of any phases by the library, the reference and the
+/// version in place: one number, and the bytes are left.
+pub fn compare_archive_verdict(bytes: &[u8], first: u64, second: u64) -> u64 {
+    let lent = bytes.to_vec();
+    let answer = raw::archive_verdict(&lent, first, second);
+    assert!(lent == bytes, "the archive is left");
+    let (a, b) = (first as usize, second as usize);
+    let plain = judged(between_phases::verdict(bytes, a, b));
+    assert_eq!(answer, plain, "records {first} and {second}");
+    let placed = judged(in_place::between_phases::verdict(bytes, a, b));
+    assert_eq!(answer, placed, "records {first} and {second}");
+    answer
 }
 
 /// The number of a step.

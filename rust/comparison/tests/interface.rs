@@ -3,16 +3,17 @@
 use comparison::{cases, in_32_bits};
 use melontime::{
     archive_bytes, Archive, EntriesBlock, Header, InMode, Kind, Mode, Network, NetworkMut, Outcome,
-    Reached, Receipt, Record, Refusal, StepRefusal, Verdict, AREA,
+    Reached, Receipt, Record, Refusal, StepRefusal, Verdict, WellKept, AREA,
 };
-use reference::area;
 use reference::at_bounds::by_hand;
 use reference::generate::{
-    any_archive, any_network, any_ranged_header, any_state, mutated_archive, network, next_step,
-    receipts_waiting, rule_breaker, state_with_news, Habits, NetworkWish, RuleBreak,
+    any_archive, any_network, any_ranged_header, any_state, mutated_archive, mutated_kept_archive,
+    network, next_step, receipts_waiting, rule_breaker, state_with_news, well_kept_parts, Habits,
+    NetworkWish, RuleBreak,
 };
 use reference::network::{Answer, State, Step};
 use reference::random::Rng;
+use reference::{area, between_phases};
 
 fn header_of(header: &reference::header::Header) -> Header {
     Header {
@@ -306,7 +307,7 @@ fn numbers_of_refusals() {
     for refusal in reference::refusal::Refusal::ALL {
         assert_eq!(refusal_of(refusal).number(), refusal.number());
     }
-    for none in [0, 9, 13, 255, 256, 257, 265, u64::MAX] {
+    for none in [0, 9, 14, 255, 256, 257, 265, u64::MAX] {
         assert_eq!(Refusal::from_number(none), None);
     }
 }
@@ -360,25 +361,54 @@ fn networks_at_the_bounds() {
     }
 }
 
-/// Verdicts by record numbers by both.
+/// Verdicts by record numbers by both: of an archive for any phases, and of two
+/// found records for one phase.
 fn compare_order(archive: Archive, i: u64, j: u64) {
-    let expected =
-        reference::archive::verdict_by_number(archive.as_bytes(), i as usize, j as usize);
+    let (bytes, a, b) = (archive.as_bytes(), i as usize, j as usize);
+    let expected = between_phases::verdict(bytes, a, b);
     let expected = expected.map(verdict_of).map_err(refusal_of);
-    assert_eq!(archive.order(i, j), expected, "records {i} and {j}");
+    assert_eq!(archive.verdict(i, j), expected, "records {i} and {j}");
+    if let Ok(kept) = archive.well_kept() {
+        assert_eq!(kept.verdict(i, j), expected.ok(), "records {i} and {j}");
+    }
+    let expected = reference::archive::verdict_by_number(bytes, a, b);
+    let found = archive.found(i).and_then(|first| {
+        let second = archive.found(j)?;
+        first.verdict(&second)
+    });
+    assert_eq!(found, expected.map(verdict_of).map_err(refusal_of));
+}
+
+/// Whether bytes are an archive and whether it is well kept, by both.
+fn compare_keeping(bytes: &[u8]) -> Option<Archive<'_>> {
+    let expected = reference::archive::Archive::open(bytes).and_then(|archive| {
+        let records = (0..archive.count()).map(|number| archive.record(number));
+        between_phases::WellKept::of(records.collect::<Result<_, _>>()?)?;
+        Ok(archive.count() as u64)
+    });
+    let kept = WellKept::try_from(bytes).map(|kept| kept.archive().len());
+    assert_eq!(kept, expected.map_err(refusal_of));
+    let opened = Archive::try_from(bytes);
+    let count = reference::archive::record_count(bytes).map_err(refusal_of);
+    assert_eq!(opened.map(|archive| archive.len()), count.map(|n| n as u64));
+    opened.ok()
 }
 
 #[test]
 fn orders_by_number() {
     cases("orders_by_number", 400, |rng| {
-        let bytes = match rng.below(4) {
+        let bytes = match rng.below(5) {
             0 => mutated_archive(rng, 60),
+            1 => mutated_kept_archive(rng, 5, 4),
+            2 | 3 => {
+                let (header, records) = well_kept_parts(rng, 6, 4);
+                reference::archive::build(&header, &records).expect("an archive")
+            }
             _ => any_archive(rng, 60),
         };
-        let opened = Archive::try_from(&bytes[..]);
-        let count = reference::archive::record_count(&bytes).map_err(refusal_of);
-        assert_eq!(opened.map(|archive| archive.len()), count.map(|n| n as u64));
-        let Ok(archive) = opened else { return };
+        let Some(archive) = compare_keeping(&bytes) else {
+            return;
+        };
         let last = archive.len();
         for (i, j) in [(0, 0), (0, last), (last, 0), (last, u64::MAX), (1 << 32, 0)] {
             compare_order(archive, i, j);

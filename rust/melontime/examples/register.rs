@@ -8,11 +8,11 @@
 //! the work of all is done the network is laid up: the host asks how many
 //! receipts that takes, and takes nothing but receipts until it is at rest. In
 //! the end the accepted records are written to an archive, which is read back,
-//! tested and questioned.
+//! tested and asked for the order of any two of them, across resets too.
 //!
 //!     cargo run --release --offline -p melontime --example register
 
-use std::collections::HashMap;
+use std::collections::{BTreeMap, HashMap};
 use std::error::Error;
 use std::io::{self, Read, Write};
 use std::os::unix::net::UnixStream;
@@ -23,7 +23,7 @@ use std::{env, fs, process};
 
 use melontime::{
     archive_bytes, Archive, Header, InMode, Kind, Mode, Outcome, Reached, Receipt, Record, Refusal,
-    StepRefusal, Verdict,
+    StepRefusal, Verdict, WellKept,
 };
 
 const STATIONS: u32 = 4;
@@ -510,6 +510,43 @@ fn place_in_list(records: &[Record], number: u64) -> (u32, u16, u64) {
     (station, record.counts()[station as usize], number)
 }
 
+/// The verdicts on a record and each other one are those of what happened before
+/// what, across resets too; two records alone tell it within one phase. Answers the
+/// list of those that are unordered with it in its phase.
+fn check_verdicts(
+    kept: &WellKept,
+    records: &[Record],
+    before: &[Vec<bool>],
+    a: usize,
+    tally: &mut BTreeMap<String, u32>,
+) -> Vec<u64> {
+    let mut unordered = Vec::new();
+    for (b, other) in records.iter().enumerate() {
+        let expected = match () {
+            () if a == b => Verdict::Same,
+            () if before[b][a] => Verdict::Before,
+            () if before[a][b] => Verdict::After,
+            () => Verdict::Unordered,
+        };
+        assert_eq!(
+            kept.verdict(a as u64, b as u64),
+            Some(expected),
+            "{a} and {b}"
+        );
+        let (alone, phases) = match records[a].phase() == other.phase() {
+            true => (Ok(expected), "one phase"),
+            false => (Err(Refusal::DifferentPhases), "two phases"),
+        };
+        assert_eq!(records[a].verdict(other), alone, "{a} and {b}");
+        *tally.entry(format!("of {phases} {expected}")).or_insert(0) += 1;
+        if alone == Ok(Verdict::Unordered) {
+            unordered.push(b as u64);
+        }
+    }
+    unordered.sort_by_key(|&number| place_in_list(records, number));
+    unordered
+}
+
 fn main() -> Result<(), Box<dyn Error>> {
     let mut header = Header::new(STATIONS, ALLOWANCE + 4 * u16::from(LIMIT));
     for station in 0..STATIONS {
@@ -563,39 +600,14 @@ fn main() -> Result<(), Box<dyn Error>> {
     println!("with one bit changed it is refused");
 
     // Verdicts and lists against what happened before what.
+    let kept = archive.well_kept()?;
     let before = happened_before(records);
-    let mut tally = HashMap::new();
+    let mut tally = BTreeMap::new();
     for (a, first) in records.iter().enumerate() {
-        let mut unordered = Vec::new();
-        for (b, second) in records.iter().enumerate() {
-            let verdict = match first.verdict(second) {
-                Err(Refusal::DifferentPhases) => {
-                    assert_ne!(first.phase(), second.phase());
-                    continue;
-                }
-                other => other?,
-            };
-            let expected = match () {
-                () if a == b => Verdict::Same,
-                () if before[b][a] => Verdict::Before,
-                () if before[a][b] => Verdict::After,
-                () => Verdict::Unordered,
-            };
-            assert_eq!(verdict, expected, "{first:?} and {second:?}");
-            *tally.entry(verdict.to_string()).or_insert(0) += 1;
-            if verdict == Verdict::Unordered {
-                unordered.push(b as u64);
-            }
-        }
-        unordered.sort_by_key(|&number| place_in_list(records, number));
+        let unordered = check_verdicts(&kept, records, &before, a, &mut tally);
         let list = archive.unordered(a as u64)?;
         assert_eq!(list, unordered);
         if a % 60 == 0 {
-            let last = records.len() - 1;
-            assert_eq!(
-                archive.order(a as u64, last as u64),
-                first.verdict(&records[last])
-            );
             let (phase, counts) = (first.phase(), &first.counts()[..STATIONS as usize]);
             println!(
                 "record {a}: station {}, phase {phase}, counts {counts:?}, unordered with {}",
@@ -604,15 +616,18 @@ fn main() -> Result<(), Box<dyn Error>> {
             );
         }
     }
-    assert_eq!(
-        archive.found(records.len() as u64),
-        Err(Refusal::NoSuchRecord)
-    );
-    let mut tally: Vec<_> = tally.into_iter().collect();
-    tally.sort();
+    let number = records.len() as u64;
+    assert_eq!(archive.found(number), Err(Refusal::NoSuchRecord));
+    assert_eq!(kept.verdict(0, number), None);
     for (verdict, pairs) in tally {
         println!("{pairs} pairs {verdict}");
     }
     println!("every verdict is that of the messages");
+
+    let twice = [&records[..], &records[..1]].concat();
+    let bytes = archive_bytes(&header, &twice)?;
+    let verdict = Archive::open(&bytes)?.verdict(0, 1);
+    assert_eq!(verdict, Err(Refusal::IllKept));
+    println!("with a record twice it gives none");
     Ok(())
 }

@@ -1,5 +1,6 @@
 //! Whole archives.
 
+use crate::record::judged;
 use crate::refusal::{done, refused};
 use crate::{raw, write_entries, Header, Record, Refusal, Verdict, BLOCK, MAX_RECORDS, RECORD};
 
@@ -34,10 +35,10 @@ pub fn archive_bytes(header: &Header, records: &[Record]) -> Result<Vec<u8>, Ref
 
 /// An archive that has passed its test, on its bytes.
 ///
-/// Its records are numbered from 0. The library tests the whole archive again
-/// in [`found`](Archive::found) and [`unordered`](Archive::unordered), and
-/// twice in [`order`](Archive::order), since it trusts no bytes that it is
-/// lent; [`records`](Archive::records) tests a block at a time.
+/// Its records are numbered from 0. The library tests the whole archive again in
+/// [`found`](Archive::found), [`verdict`](Archive::verdict) and
+/// [`unordered`](Archive::unordered), since it trusts no bytes that it is lent;
+/// [`records`](Archive::records) tests a block at a time.
 #[derive(Clone, Copy, Debug)]
 pub struct Archive<'a> {
     bytes: &'a [u8],
@@ -115,31 +116,65 @@ impl<'a> Archive<'a> {
         done("found_record", answer).map(|()| Record::written(bytes))
     }
 
-    /// The order of two events by the numbers of their records.
+    /// The order of two events of any phases, by the numbers of their records.
+    ///
+    /// In the archive of all events of a network since its setup this is
+    /// happened-before, across resets too: the first is before the second where
+    /// messages, and each station's own course, lead from one to the other. The
+    /// whole archive is asked, whose records may stand in any order.
     ///
     /// # Errors
     ///
-    /// [`Refusal::NoSuchRecord`] where there is no record i or j, then
-    /// [`Refusal::DifferentPhases`].
+    /// [`Refusal::NoSuchRecord`] where there is no such record, then
+    /// [`Refusal::IllKept`] where the archive is not well kept: see [`WellKept`].
     ///
     /// ```
-    /// use melontime::{archive_bytes, Archive, Header, Network, Refusal, Verdict};
+    /// use melontime::{archive_bytes, Archive, Header, Network, Outcome, Refusal, Verdict};
     ///
-    /// let header = Header::new(1, 9).allow(0, 2)?;
+    /// let header = Header::new(2, 7).allow(0, 3)?.allow(1, 3)?.link(0, 1, 2)?;
     /// let mut network = Network::setup(&header)?;
-    /// let mut records = vec![network.enter(0, 1)?, network.enter(0, 2)?];
+    /// let mut records = vec![network.enter(0, 1)?, network.enter(1, 2)?];
+    /// // A reset, in which neither has heard of the other's entry.
     /// network.start(0)?;
-    /// records.push(network.enter(0, 3)?);
+    /// for (station, peer) in [(1, 0), (0, 1), (1, 0), (0, 1)] {
+    ///     network.recv(station, peer)?;
+    /// }
+    /// records.push(network.enter(1, 3)?);
+    /// records.push(network.send(0, 1, 4)?);
+    /// let Outcome::Entry(receipt) = network.recv(1, 0)? else {
+    ///     panic!("the link holds a message");
+    /// };
+    /// records.push(receipt.record);
+    ///
     /// let bytes = archive_bytes(&header, &records)?;
     /// let archive = Archive::open(&bytes)?;
-    /// assert_eq!(archive.order(0, 1)?, Verdict::Before);
-    /// assert_eq!(archive.order(1, 2), Err(Refusal::DifferentPhases));
-    /// assert_eq!(archive.order(2, 3), Err(Refusal::NoSuchRecord));
+    /// assert_eq!(archive.verdict(0, 2)?, Verdict::Unordered);
+    /// assert_eq!(archive.verdict(0, 4)?, Verdict::Before); // by the message
+    /// assert_eq!(archive.verdict(3, 0)?, Verdict::After);
+    /// assert_eq!(archive.verdict(2, 3)?, Verdict::Unordered); // of one phase
+    /// assert_eq!(archive.verdict(2, 5), Err(Refusal::NoSuchRecord));
+    ///
+    /// // Two records alone do not tell it.
+    /// let (first, second) = (archive.found(0)?, archive.found(4)?);
+    /// assert_eq!(first.verdict(&second), Err(Refusal::DifferentPhases));
     /// # Ok::<(), Refusal>(())
     /// ```
-    pub fn order(&self, i: u64, j: u64) -> Result<Verdict, Refusal> {
-        let (first, second) = (self.found(i)?, self.found(j)?);
-        first.verdict(&second)
+    pub fn verdict(&self, first: u64, second: u64) -> Result<Verdict, Refusal> {
+        let answer = raw::archive_verdict(self.bytes, first, second);
+        judged("archive_verdict", answer)
+    }
+
+    /// The archive as one that is well kept.
+    ///
+    /// # Errors
+    ///
+    /// [`Refusal::IllKept`] where it is not.
+    pub fn well_kept(self) -> Result<WellKept<'a>, Refusal> {
+        // A verdict sees to it, also where both records are one and the same.
+        match self.is_empty() {
+            true => Ok(WellKept { archive: self }),
+            false => self.verdict(0, 0).map(|_| WellKept { archive: self }),
+        }
     }
 
     /// The numbers of the records of a record's phase that are unordered with
@@ -227,6 +262,76 @@ impl<'a> IntoIterator for Archive<'a> {
 
     fn into_iter(self) -> Records<'a> {
         self.records()
+    }
+}
+
+/// An archive that is well kept: for each station and phase, the counts that its
+/// records there have for the station itself are 1, 2, 3 and so on, each once. Then
+/// there is an order of any two of its records.
+///
+/// The archive of a network's events since its setup is well kept, whole or up to
+/// some event, and in whichever order the records stand. One that lacks an event
+/// before another of its station and phase is not, nor one that has an event twice.
+///
+/// ```
+/// use melontime::{archive_bytes, Header, Network, Refusal, Verdict, WellKept};
+///
+/// let header = Header::new(1, 9).allow(0, 2)?;
+/// let mut network = Network::setup(&header)?;
+/// let mut records = vec![network.enter(0, 1)?, network.enter(0, 2)?];
+/// network.start(0)?; // a reset of one
+/// records.push(network.enter(0, 3)?);
+///
+/// let bytes = archive_bytes(&header, &records)?;
+/// let kept = WellKept::open(&bytes)?;
+/// assert_eq!(kept.verdict(1, 2), Some(Verdict::Before));
+/// assert_eq!(kept.verdict(2, 0), Some(Verdict::After));
+/// assert_eq!(kept.verdict(2, 3), None);
+///
+/// let bytes = archive_bytes(&header, &records[1..])?;
+/// assert_eq!(WellKept::open(&bytes).unwrap_err(), Refusal::IllKept);
+/// # Ok::<(), Refusal>(())
+/// ```
+#[derive(Clone, Copy, Debug)]
+pub struct WellKept<'a> {
+    archive: Archive<'a>,
+}
+
+impl<'a> WellKept<'a> {
+    /// Tests an archive, and that it is well kept.
+    ///
+    /// # Errors
+    ///
+    /// [`Refusal::Malformed`] for bytes that are no archive, then
+    /// [`Refusal::IllKept`].
+    pub fn open(bytes: &'a [u8]) -> Result<WellKept<'a>, Refusal> {
+        Archive::open(bytes)?.well_kept()
+    }
+
+    /// The archive.
+    #[must_use]
+    pub fn archive(&self) -> Archive<'a> {
+        self.archive
+    }
+
+    /// The order of two events of any phases, as [`Archive::verdict`]; none where
+    /// there is no such record.
+    #[must_use]
+    pub fn verdict(&self, first: u64, second: u64) -> Option<Verdict> {
+        match self.archive.verdict(first, second) {
+            Ok(verdict) => Some(verdict),
+            Err(Refusal::NoSuchRecord) => None,
+            Err(other) => panic!("a well-kept archive is {other}"),
+        }
+    }
+}
+
+/// As [`WellKept::open`].
+impl<'a> TryFrom<&'a [u8]> for WellKept<'a> {
+    type Error = Refusal;
+
+    fn try_from(bytes: &'a [u8]) -> Result<WellKept<'a>, Refusal> {
+        WellKept::open(bytes)
     }
 }
 

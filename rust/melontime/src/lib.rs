@@ -4,17 +4,19 @@
 //! Every event bears a vector timestamp of eight counts. The stations reset
 //! their counts together, from phase to phase, so that the counts stay small.
 //! Events are kept in an archive, which tells from its bytes alone which of two
-//! events of a phase came first, or that neither did.
+//! events came first, across resets too, or that neither did.
 //!
 //! All that is decided is decided by the proved library. This crate gives its
 //! numbers and byte slices Rust types: a [`Network`] of stations with its
 //! steps, the [`Record`] of an event, the [`Receipt`] of a message with its
 //! news, the [`Verdict`] on two records, header and entries blocks, and the
-//! [`Archive`]. A refused call is an `Err` with its [`Refusal`], and changes
-//! nothing. A station is named by a `u32`, everywhere. A [`Reached`] network is
-//! one that comes from setup by steps alone; its steps have five causes to be
-//! refused, and no other. [`ReceiptsOnly`] lays one up: it takes receipts alone,
-//! and tells how many there are still to come.
+//! [`Archive`], which is asked for the order of any two of its records. A
+//! refused call is an `Err` with its [`Refusal`], and changes nothing. A station
+//! is named by a `u32`, everywhere. A [`Reached`] network is one that comes from
+//! setup by steps alone; its steps have five causes to be refused, and no other.
+//! [`ReceiptsOnly`] lays one up: it takes receipts alone, and tells how many
+//! there are still to come. A [`WellKept`] archive has an order of any two of its
+//! records, whatever their phases.
 //!
 //! # A network
 //!
@@ -58,7 +60,7 @@
 //! let archive = Archive::open(&bytes)?;
 //! assert_eq!(archive.len(), 3);
 //! assert_eq!(archive.unordered(0)?, [1]);
-//! assert_eq!(archive.order(0, 2)?, Verdict::Before);
+//! assert_eq!(archive.verdict(0, 2)?, Verdict::Before);
 //! assert!(archive.into_iter().all(|record| record.phase() == 0));
 //! # Ok::<(), Refusal>(())
 //! ```
@@ -79,7 +81,7 @@ mod reached;
 mod record;
 mod refusal;
 
-pub use archive::{archive_bytes, Archive, Records};
+pub use archive::{archive_bytes, Archive, Records, WellKept};
 pub use blocks::{write_entries, EntriesBlock, Header};
 pub use network::{InMode, Mode, Network, NetworkMut, Outcome, Receipt};
 pub use reached::{Reached, ReceiptsOnly, StepRefusal};

@@ -113,6 +113,12 @@ mod library {
             list: *mut u64,
             list_length: usize,
         ) -> u64;
+        pub fn melontime_archive_verdict(
+            archive: *const u8,
+            archive_length: usize,
+            first: u64,
+            second: u64,
+        ) -> u64;
     }
 }
 
@@ -318,4 +324,11 @@ pub fn unordered(archive: &[u8], number: u64, list: &mut [u64]) -> u64 {
             list.len(),
         )
     }
+}
+
+/// The order of two records of an archive by their numbers, whatever their phases.
+#[must_use]
+pub fn archive_verdict(archive: &[u8], first: u64, second: u64) -> u64 {
+    // SAFETY: see the head of this module.
+    unsafe { library::melontime_archive_verdict(archive.as_ptr(), archive.len(), first, second) }
 }

@@ -16,7 +16,7 @@ pub enum Kind {
     Received,
 }
 
-/// The order of two events of one phase.
+/// The order of two events.
 #[derive(Clone, Copy, Debug, PartialEq, Eq, Hash)]
 pub enum Verdict {
     /// The first happened before the second.
@@ -128,7 +128,8 @@ impl Record {
         std::array::from_fn(|k| u16::from_le_bytes([self.0[16 + 2 * k], self.0[17 + 2 * k]]))
     }
 
-    /// The order of this event and another of its phase.
+    /// The order of this event and another of its phase. Across resets two records
+    /// alone do not tell it: see [`Archive::verdict`](crate::Archive::verdict).
     ///
     /// # Errors
     ///
@@ -196,11 +197,16 @@ impl AsRef<[u8]> for Record {
 /// assert_eq!(verdict(&[0; 32], &[]), Err(Refusal::Malformed));
 /// ```
 pub fn verdict(first: &[u8], second: &[u8]) -> Result<Verdict, Refusal> {
-    match raw::verdict(first, second) {
+    judged("verdict", raw::verdict(first, second))
+}
+
+/// The answer of a call that gives the order of two records.
+pub(crate) fn judged(call: &str, number: u64) -> Result<Verdict, Refusal> {
+    match number {
         100 => Ok(Verdict::Before),
         101 => Ok(Verdict::After),
         102 => Ok(Verdict::Same),
         103 => Ok(Verdict::Unordered),
-        other => Err(refused("verdict", other)),
+        other => Err(refused(call, other)),
     }
 }

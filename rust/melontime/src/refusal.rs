@@ -48,6 +48,9 @@ pub enum Refusal {
     AreaLength = 11,
     /// 12: no record of this number; a write of 0 or over 15 records.
     NoSuchRecord = 12,
+    /// 13: an archive is asked for the order of two records, and in some phase the
+    /// own counts of a station are not 1, 2, 3 and so on, each once.
+    IllKept = 13,
 }
 
 impl Refusal {
@@ -64,6 +67,7 @@ impl Refusal {
         Refusal::DifferentPhases,
         Refusal::AreaLength,
         Refusal::NoSuchRecord,
+        Refusal::IllKept,
     ];
 
     /// The refusal's number.
@@ -96,6 +100,7 @@ impl fmt::Display for Refusal {
             Refusal::DifferentPhases => "the records are of different phases",
             Refusal::AreaLength => "an area has the wrong length",
             Refusal::NoSuchRecord => "no such record, or no such number of records",
+            Refusal::IllKept => "the archive lacks records of a station, or has some twice",
         };
         write!(f, "refused with {}: {cause}", self.number())
     }

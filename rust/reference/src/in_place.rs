@@ -5,6 +5,7 @@
 //! x86-64.
 
 pub mod archives;
+pub mod between_phases;
 mod formed;
 mod head;
 mod lanes;

@@ -1,5 +1,5 @@
 //! The causes of a refusal and their numbers: the table of 'State area and
-//! host' in document 01; CR 9 in document 02.
+//! host' in document 01; CR 2 and CR 9 in document 02.
 
 use std::fmt;
 
@@ -29,11 +29,14 @@ pub enum Refusal {
     BufferLength,
     /// 12: record number not in the block or archive; a write of 0 or over 15 records.
     NoSuchRecord,
+    /// 13: a station's own counts in some phase of an archive are not 1, 2, 3 ..,
+    /// each once.
+    IllKept,
 }
 
 impl Refusal {
     /// Every refusal, by rising number.
-    pub const ALL: [Refusal; 11] = [
+    pub const ALL: [Refusal; 12] = [
         Refusal::Malformed,
         Refusal::IllFormedState,
         Refusal::NetworkRule,
@@ -45,6 +48,7 @@ impl Refusal {
         Refusal::DifferentPhases,
         Refusal::BufferLength,
         Refusal::NoSuchRecord,
+        Refusal::IllKept,
     ];
 
     /// The number of the table.
@@ -61,6 +65,7 @@ impl Refusal {
             Refusal::DifferentPhases => 10,
             Refusal::BufferLength => 11,
             Refusal::NoSuchRecord => 12,
+            Refusal::IllKept => 13,
         }
     }
 

@@ -30,10 +30,10 @@ fn own_record() -> Record {
     }
 }
 
-/// The numbers 1 to 12, of which 9 has no cause.
+/// The numbers 1 to 13, of which 9 has no cause.
 #[test]
 fn refusal_numbers() {
-    let numbers = [1, 2, 3, 4, 5, 6, 7, 8, 10, 11, 12];
+    let numbers = [1, 2, 3, 4, 5, 6, 7, 8, 10, 11, 12, 13];
     assert_eq!(Refusal::ALL.map(Refusal::number), numbers);
     for number in 0..=u8::MAX {
         let refusal = Refusal::from_number(number);

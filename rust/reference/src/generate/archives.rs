@@ -41,6 +41,11 @@ pub fn any_record(rng: &mut Rng) -> Record {
 /// none.
 pub fn admitted_record(rng: &mut Rng, header: &Header) -> Option<Record> {
     let station = rng.index(header.n());
+    admitted_record_of(rng, header, station)
+}
+
+/// The same of a station.
+pub fn admitted_record_of(rng: &mut Rng, header: &Header, station: usize) -> Option<Record> {
     let n = header.n();
     let sent: Vec<usize> = (0..n)
         .filter(|&j| j != station && header.limit(station, j) > 0)
@@ -248,7 +253,7 @@ impl ArchiveDamage {
 }
 
 /// Seals block k of an archive's bytes again.
-fn reseal(bytes: &mut [u8], k: usize) {
+pub(super) fn reseal(bytes: &mut [u8], k: usize) {
     let block: &mut [u8; BLOCK] = (&mut bytes[k * BLOCK..(k + 1) * BLOCK])
         .try_into()
         .expect("a block's length");

@@ -8,12 +8,14 @@ use crate::random::Rng;
 
 mod archives;
 mod headers;
+mod kept;
 mod scripts;
 mod states;
 mod steps;
 
 pub use archives::*;
 pub use headers::*;
+pub use kept::*;
 pub use scripts::*;
 pub use states::*;
 pub use steps::*;
