@@ -17,7 +17,9 @@ use clock::Verdict;
 use record::Record;
 use verdict::Compared;
 
-// Marks of eight stations in so many phases at once.
+// So many phases are looked at in one pass at most, and eight marks stand for each.
+const PHASES: usize = 1024;
+
 const MARKS: usize = 8192;
 
 // A count is at least what is asked for it; 0 asks nothing.
@@ -224,16 +226,25 @@ fn spread_in(a: &[u8], from: u32, reached: [u16; 8], table: &mut [u32]) -> Sprea
     }
 }
 
-// From phase `from` on as many phases before `until` as the table has room for.
-fn spread_on(a: &[u8], from: u32, until: u32, reached: [u16; 8], table: &mut [u32]) -> Spread
-    requires { ⌜ (archiveTest (now a) ≡ true) × (from < until) × (8 ≤ length (now table)) ⌝ }
+// From phase `from` on so many phases before `until`, where the table has room for them.
+fn spread_on(
+    a: &[u8],
+    from: u32,
+    until: u32,
+    phases: usize,
+    reached: [u16; 8],
+    table: &mut [u32],
+) -> Spread
+    requires { ⌜ (archiveTest (now a) ≡ true) × (from < until) × (1 ≤ phases) × (8 ≤ length (now table)) ⌝ }
     ensures { λ r. ⌜ (length (now (table .exit)) ≡ length (now (table .entry))) × (from < r .next) × (r .next ≤ until) × ((x : Event) (d : ℕ) → x .phase + 1 + d ≡ from → Reaches (now (a .entry)) x d reached → (e : ℕ) → x .phase + 1 + e ≡ r .next → Reaches (now (a .entry)) x e (r .reached)) ⌝ }
 {
-    let n = lesser((until - from) as usize, table.len() / 8) * 8;
+    let most = lesser((until - from) as usize, phases);
+    let n = lesser(most, table.len() / 8) * 8;
     spread_in(a, from, reached, &mut table[0..n])
 }
 
-// Whether x reaches a station that y of a later phase knows. A station once reached stays, so that the first one that y knows decides.
+// Whether x reaches a station that y of a later phase knows. A station once reached stays, so that the first one that y knows decides. In an archive
+// of a run a station joins in the first phase of each look; where none does, the looks grow wider.
 fn reaches(a: &[u8], x: Record, y: Record, table: &mut [u32]) -> bool
     requires { ⌜ (archiveTest (now a) ≡ true) × (x .station < 8) × (1 ≤ getD (x .counts) (x .station) 0) × (x .phase < y .phase) × (8 ≤ length (now table)) ⌝ }
     ensures { λ r. ⌜ r ≡ precedesIn (now (a .entry)) x y ⌝ }
@@ -242,6 +253,7 @@ fn reaches(a: &[u8], x: Record, y: Record, table: &mut [u32]) -> bool
     let counts = y.counts;
     let mut reached = reached_first(a, x, &mut table[0..8]);
     let mut from = x.phase + 1;
+    let mut phases = 1;
     while from < until {
         if meets(reached, counts) {
             return true;
@@ -250,10 +262,11 @@ fn reaches(a: &[u8], x: Record, y: Record, table: &mut [u32]) -> bool
         if next == until {
             return false;
         }
-        let s = spread_on(a, next, until, reached, table);
+        let s = spread_on(a, next, until, phases, reached, table);
         let more = s.reached;
         reached = more;
         from = s.next;
+        phases = lesser(2 * phases, PHASES);
     }
     meets(reached, counts)
 }

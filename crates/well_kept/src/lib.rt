@@ -40,6 +40,7 @@ fn key_of(a: &[u8], p: Place) -> u64
     (e.phase as u64 * 8 + s as u64) * 65536 + wide16(own)
 }
 
+// Key v is as it must be where p is the greatest key below it.
 fn follows(p: u64, v: u64) -> bool
     ensures { λ r. ⌜ r ≡ followsOn p v ⌝ }
 {

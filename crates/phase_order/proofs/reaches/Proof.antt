@@ -26,13 +26,13 @@ reached-skips {a} {x} {f} w g l h =
     record { rounds = w .rounds + (g - f); phase = e; are = skips a x (w .rounds + (g - f)) (w .are) (w .phase) l e h }
 
 abbrev Inv-loop : tie.InvT-loop
-Inv-loop a table₀ until counts reached₀ from₀ table reached from = (from ≤ until) × (length table ≡ length table₀) × ((x : Record) → Reached a x from₀ reached₀ → Reached a x from reached)
+Inv-loop a table₀ until counts reached₀ from₀ phases₀ table reached from phases = (1 ≤ phases) × (phases ≤ 1024) × (from ≤ until) × (length table ≡ length table₀) × ((x : Record) → Reached a x from₀ reached₀ → Reached a x from reached)
 
 abbrev μ-loop : tie.MeasureT-loop
-μ-loop a table₀ until counts reached₀ from₀ table reached from = until - from
+μ-loop a table₀ until counts reached₀ from₀ phases₀ table reached from phases = until - from
 
 loop-holds : tie.Need-loop-holds Inv-loop μ-loop
-loop-holds c = (omega arith, refl, λ x w. w)
+loop-holds c = (omega arith, omega arith, omega arith, refl, λ x w. w)
 
 reached-first-requires : tie.Need-reached-first-requires Inv-loop μ-loop
 reached-first-requires c κs =
@@ -51,19 +51,19 @@ module _ (l : tie.At-loop Inv-loop μ-loop) where
   a = now (s .args .a)
 
   long : length (l .loop .table) ≡ length (now (s .args .table))
-  long = l .loop .inv .1 ∙ length-front (now (s .args .table)) (f .reached-first .last .1 .1 .0) 8 (f .reached-first .ensures .0)
+  long = l .loop .inv .3 ∙ length-front (now (s .args .table)) (f .reached-first .last .1 .1 .0) 8 (f .reached-first .ensures .0)
 
   -- the stations that x reaches before the phase that the loop stands at
   here : Reached a (s .args .x) (l .loop .from) (l .loop .reached)
-  here = l .loop .inv .2 (s .args .x) (record { rounds = 0; phase = omega arith; are = f .reached-first .ensures .1 })
+  here = l .loop .inv .4 (s .args .x) (record { rounds = 0; phase = omega arith; are = f .reached-first .ensures .1 })
 
 returns : tie.Need-returns Inv-loop μ-loop
 returns c =
     let l = c .before .before .before in
-    sym (early-yes (a l) (s l .args .x) (s l .args .y) (s l .pre .3) (here l .are) (omega (arith, here l .phase, l .loop .inv .0)) (sym (c .before .meets .ensures) ∙ c .if1 .taken))
+    sym (early-yes (a l) (s l .args .x) (s l .args .y) (s l .pre .3) (here l .are) (omega (arith, here l .phase, l .loop .inv .2)) (sym (c .before .meets .ensures) ∙ c .if1 .taken))
 
 next-phase-requires : tie.Need-next-phase-requires Inv-loop μ-loop
-next-phase-requires c κs = let l = c .before .before .before in (s l .pre .0, l .loop .inv .0)
+next-phase-requires c κs = let l = c .before .before .before in (s l .pre .0, l .loop .inv .2)
 
 -- ---- where the next phase is known
 module _ (c : tie.After-next-phase Inv-loop μ-loop) where
@@ -82,22 +82,24 @@ returns-2 c =
 spread-on-requires : tie.Need-spread-on-requires Inv-loop μ-loop
 spread-on-requires c κs =
     let n = c .before .before in
-    (s (l n) .pre .0, omega (arith, n .next-phase .ensures .1, c .before .if2 .left), omega (arith, long (l n), s (l n) .pre .4))
+    (s (l n) .pre .0, omega (arith, n .next-phase .ensures .1, c .before .if2 .left), l n .loop .inv .0, omega (arith, long (l n), s (l n) .pre .4))
 
 loop-less : tie.Need-loop-less Inv-loop μ-loop
 loop-less c =
-    let p = c .before .before .before in
+    let p = c .before .before .before .before in
     let n = p .before .before .before in
     omega (arith, p .spread-on .ensures .1, p .spread-on .ensures .2, n .next-phase .ensures .0)
 
 loop-again : tie.Need-loop-again Inv-loop μ-loop
 loop-again c =
-    let p = c .before .before .before in
+    let p = c .before .before .before .before in
     let n = p .before .before .before in
     let g = p .spread-on .ensures in (
+      omega (arith, c .lesser .ensures, l n .loop .inv .0),
+      omega (arith, c .lesser .ensures),
       g .2,
-      g .0 ∙ l n .loop .inv .1,
-      λ x w. let t = then n x (l n .loop .inv .2 x w) in
+      g .0 ∙ l n .loop .inv .3,
+      λ x w. let t = then n x (l n .loop .inv .4 x w) in
           let e : x .phase + 1 + (p .spread-on .result .next - (x .phase + 1)) ≡ p .spread-on .result .next = omega (arith, t .phase, g .1) in
           record { rounds = p .spread-on .result .next - (x .phase + 1); phase = e; are = g .3 x (t .rounds) (t .phase) (t .are) (p .spread-on .result .next - (x .phase + 1)) e },
     )
@@ -105,10 +107,10 @@ loop-again c =
 returns-3 : tie.Need-returns-3 Inv-loop μ-loop
 returns-3 c =
     let l = c .before .before in
-    c .meets2 .ensures ∙ last-told (a l) (s l .args .x) (s l .args .y) (s l .pre .3) (here l .are) (omega (arith, here l .phase, l .loop .inv .0, c .before .loop-test .left))
+    c .meets2 .ensures ∙ last-told (a l) (s l .args .x) (s l .args .y) (s l .pre .3) (here l .are) (omega (arith, here l .phase, l .loop .inv .2, c .before .loop-test .left))
 
 pub reaches-spec : {M : Type 1} → statement M
 reaches-spec =
     tie.close
     (tie.spec Inv-loop μ-loop (λ c. search needs) (λ c. search needs) (λ c. search needs) reached-first-requires (λ c. search needs) loop-holds (λ c κs. search needs) (λ c. long (c .before .before .before)) returns
-    next-phase-requires (λ c. long (l (c .before))) returns-2 spread-on-requires loop-less loop-again (λ c κs. search needs) (λ c. long (c .before .before)) returns-3)
+    next-phase-requires (λ c. long (l (c .before))) returns-2 spread-on-requires (λ c. omega (arith, l (c .before .before .before .before .before .before) .loop .inv .1)) (λ c κs. search needs) loop-less loop-again (λ c κs. search needs) (λ c. long (c .before .before)) returns-3)

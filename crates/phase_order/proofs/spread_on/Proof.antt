@@ -10,21 +10,21 @@ use Rattle.phase_order.proofs.spread_on.Statement.{statement}
 use Rattle.phase_order.proofs.spread_on.Tie as tie
 
 -- ---- where the number of phases is known
-module _ (c : tie.After-lesser) where
+module _ (c : tie.After-lesser2) where
   abbrev s : tie.Start
-  s = c .before .before .before
+  s = c .before .before .before .before
 
   abbrev n : ℕ
-  n = c .lesser .result * 8
+  n = c .lesser2 .result * 8
 
   fits : n ≤ length (now (s .args .table))
-  fits = omega (arith, c .lesser .ensures)
+  fits = omega (arith, c .lesser2 .ensures)
 
   some : 8 ≤ n
-  some = omega (arith, c .lesser .ensures, s .pre .1, s .pre .2)
+  some = omega (arith, c .lesser2 .ensures, c .before .lesser .ensures, s .pre .1, s .pre .2, s .pre .3)
 
   before : s .args .from * 8 + n ≤ s .args .until * 8
-  before = omega (arith, c .lesser .ensures, s .pre .1)
+  before = omega (arith, c .lesser2 .ensures, c .before .lesser .ensures, s .pre .1)
 
   long : length (take (n - 0) (now (s .args .table))) ≡ n
   long = length-take (n - 0) (now (s .args .table)) ∙ omega (arith, fits)
@@ -36,7 +36,7 @@ spread-in-requires c κs =
 
 -- ---- where they have been looked at
 module _ (c : tie.After-spread-in) where
-  abbrev e : tie.After-lesser
+  abbrev e : tie.After-lesser2
   e = c .before .before
 
   same : length ((c .spread-in .last .1 .1 .1 .0) ++ drop (n e - 0) (now (s e .args .table))) ≡ length (now (s e .args .table))
@@ -51,5 +51,5 @@ returns c =
 pub spread-on-spec : {M : Type 1} → statement M
 spread-on-spec =
     tie.close
-    (tie.spec (λ c. search needs) (λ c. search needs) (λ c κs. search needs) (λ c. omega (arith, fits c)) (λ c. search needs) (λ c. search needs) (λ c. omega (arith, fits c)) spread-in-requires
+    (tie.spec (λ c. search needs) (λ c. search needs) (λ c κs. search needs) (λ c κs. search needs) (λ c. omega (arith, fits c)) (λ c. search needs) (λ c. search needs) (λ c. omega (arith, fits c)) spread-in-requires
     (λ c. same (c .before .before)) returns)
