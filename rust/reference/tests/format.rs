@@ -5,6 +5,7 @@ use std::fs;
 use std::path::Path;
 
 use reference::archive::{self, Archive};
+use reference::between_phases::WellKept;
 use reference::check::block_check;
 use reference::entries::{start, MAX_RECORDS};
 use reference::header::Header;
@@ -248,4 +249,32 @@ fn verdicts() {
     assert_eq!(verdict([0, 1], [1, 0]), Verdict::Unordered);
     assert_eq!(verdict([2, 0], [2, 1]), Verdict::Before);
     assert_eq!(verdict([1, 1], [0, 1]), Verdict::After);
+}
+
+/// Of the page's archive, and of its example with three stations.
+#[test]
+fn verdicts_between_phases() {
+    let kept = WellKept::of(worked().1).expect("it is well kept");
+    for (first, second) in [(0, 3), (0, 4), (1, 3), (1, 4), (2, 3), (2, 4)] {
+        assert_eq!(kept.verdict(first, second), Ok(Verdict::Before));
+    }
+    let event = |station, phase, of: [u16; 3]| Record {
+        kind: Kind::Own,
+        station,
+        peer: NO_PEER,
+        phase,
+        register: 0,
+        counts: counts(&of),
+    };
+    let events = vec![
+        event(0, 0, [1, 0, 0]),
+        event(1, 0, [1, 1, 0]),
+        event(0, 0, [2, 0, 0]),
+        event(1, 1, [0, 1, 0]),
+        event(2, 1, [0, 1, 1]),
+        event(2, 2, [0, 0, 1]),
+    ];
+    let kept = WellKept::of(events).expect("they are well kept");
+    assert_eq!(kept.verdict(0, 5), Ok(Verdict::Before));
+    assert_eq!(kept.verdict(2, 5), Ok(Verdict::Unordered));
 }
