@@ -2,13 +2,12 @@
 use Prim.Native.Nat.{ℕ, _≤_, _<_}
 use mathlib.Core.Path.{_≡_, refl, sym, _∙_}
 use mathlib.Core.List.{List}
-use mathlib.Core.Bool.{Bool, true, false, _&&_, cond}
+use mathlib.Core.Bool.{Bool, true, false, cond}
 use native.Mathlib.Omega.{arith}
-use native.Mathlib.Decide.{ℕ-discrete, decLt}
-use lib.Dec.{eqb, ltb}
+use native.Mathlib.Decide.{decLt}
+use lib.Dec.{ltb}
 use borrow.Author.Tests.{eq-eqb, ne-eqb, le-ltb, lt-ltb}
 use Rattle.clock.specs.Order.{verdictOf, mirror}
-use Rattle.clock.specs.declared.Verdict.{Verdict}
 use Rattle.clock.specs.declared.Verdict.the-variants.{Before, After, Unordered}
 use Rattle.clock.proofs.OrderLaws.{verdict-mirror}
 use Rattle.record.specs.declared.Record.{Record}

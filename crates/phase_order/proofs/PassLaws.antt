@@ -1,24 +1,21 @@
 -- What is asked of timestamps, and tables of the marks of last timestamps. Assumes nothing.
-use Prim.Native.Nat.{ℕ, zero, suc, _+_, _*_, _-_, _/_, _%_, _≤_, _<_}
+use Prim.Native.Nat.{ℕ, zero, suc, _+_, _*_, _-_, _/_, _≤_, _<_}
 use mathlib.Core.Path.{_≡_, refl, sym, ap, _∙_}
 use mathlib.Core.Logic.{_⊎_, inl, inr}
 use mathlib.Core.List.{List}
 use mathlib.Core.Bool.{Bool, true, false, _&&_, cond, and-false}
 use native.Mathlib.Omega.{arith}
 use native.Mathlib.Numerals.{add-one}
-use native.Mathlib.Decide.{ℕ-discrete, decLt, decLe}
+use native.Mathlib.Decide.{ℕ-discrete, decLt}
 use lib.Dec.{eqb, leb, ltb}
 use lib.ListN.{length, getD, set, getD-replicate, length-set, List·getD-eq-default, length-replicate}
 use lib.Seq.{getD-set-same, getD-set-other}
-use borrow.Author.Tests.{lt-ltb, le-ltb, le-leb, lt-leb, eqb-true, eqb-false, eq-eqb, ne-eqb, leb-false}
-use Rattle.codec.specs.Every.{some}
+use borrow.Author.Tests.{lt-ltb, le-ltb, lt-leb, eqb-true, eq-eqb, ne-eqb}
 use Rattle.codec.proofs.EveryLaws.{both, bool-iff}
 use Rattle.clock.specs.Timestamp.{zeros}
-use Rattle.record.specs.declared.Record.{Record}
-use Rattle.archive.specs.Archive.{records}
 use Rattle.events.specs.Events.{eventAt, stationAt, ownAt}
 use Rattle.phase_order.specs.PhaseOrder.{isOf, lastAmong, knows}
-use Rattle.phase_order.specs.Passes.{meets, marked, Table, NoneMeets}
+use Rattle.phase_order.specs.Passes.{meets, marked, Table}
 use Rattle.codec.proofs.SomeLaws.{some-same, some-not, some-of, some-holds}
 
 -- ---- what is asked

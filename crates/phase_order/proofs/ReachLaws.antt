@@ -3,19 +3,18 @@ use Prim.Native.Nat.{ℕ, zero, suc, _+_, _*_, _-_, _%_, _≤_, _<_}
 use mathlib.Core.Path.{_≡_, refl, sym, ap, _∙_}
 use mathlib.Core.Logic.{_⊎_, inl, inr}
 use mathlib.Core.List.{List}
-use mathlib.Core.Bool.{Bool, true, false, _&&_, _||_, cond, true≢false}
+use mathlib.Core.Bool.{Bool, true, false, _&&_, _||_, cond}
 use native.Mathlib.Omega.{arith}
 use native.Mathlib.Numerals.{add-one}
-use lib.Dec.{eqb, leb, ltb}
+use lib.Dec.{eqb, leb}
 use lib.ListN.{length, getD}
-use borrow.Author.Tests.{lt-ltb, eqb-true, eq-eqb, ne-eqb}
-use Rattle.codec.specs.Every.{some}
+use borrow.Author.Tests.{lt-ltb, eq-eqb, ne-eqb}
 use Rattle.codec.proofs.EveryLaws.{both, join}
 use Rattle.record.specs.declared.Record.{Record}
 use Rattle.archive.specs.Archive.{records}
-use Rattle.events.specs.Events.{eventAt, stationAt}
+use Rattle.events.specs.Events.{eventAt}
 use Rattle.clock.specs.Timestamp.{zeros}
-use Rattle.phase_order.specs.PhaseOrder.{isOf, lastAmong, lastTimestamp, reachedFirst, knows, reachedNext, reached, precedes}
+use Rattle.phase_order.specs.PhaseOrder.{isOf, lastTimestamp, reachedFirst, knows, reachedNext, reached, precedes}
 use Rattle.phase_order.specs.Passes.{meets, marked, Table, NoneMeets, Reaches}
 use Rattle.codec.proofs.SomeLaws.{some-of, some-holds}
 use Rattle.phase_order.proofs.PassLaws.{meets-zeros, meets-knows, meets-one, is-of, last-cases}

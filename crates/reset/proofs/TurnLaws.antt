@@ -1,17 +1,15 @@
 -- After `turn` no reset rule applies, from any state: three at most ever apply in a row. Assumes nothing.
-use Prim.Native.Nat.{ℕ, zero, suc, _<_}
+use Prim.Native.Nat.{ℕ, zero, suc}
 use mathlib.Core.Path.{_≡_, refl, sym, ap, _∙_}
 use mathlib.Core.Logic.{_≢_}
 use mathlib.Core.Bool.{Bool, true, false, not, _&&_, _||_, and-false}
-use native.Mathlib.Omega.{arith}
-use native.Mathlib.Decide.{ℕ-discrete}
 use Rattle.codec.specs.Every.{every, some}
 use Rattle.reset.specs.Config.{Config, neighbours}
 use Rattle.reset.specs.Clock.{Clock}
 use Rattle.reset.specs.State.{Mode, normal, mute, standBy, Station, State, stationAt, reqSeen, doneSeen}
 use Rattle.reset.specs.Steps.{everyNeighbour, someNeighbour, begun, renewed, woken, beginReset, renew, wake, Rule, ruleA, ruleB, ruleC, noRule, ruleIn, ruleOf, applied, apply, turnOnce, turn}
 use Rattle.reset.proofs.Views.{none-at, station-set, station-set-other, station-put-all}
-use Rattle.reset.proofs.Cases.{by-test, by-dec, clash}
+use Rattle.reset.proofs.Cases.{by-test, clash}
 
 -- ---- marks that nobody has
 pub some-none : (n : ℕ) (r p : ℕ → Bool) → ((j : ℕ) → p j ≡ false) → some n (λ j. r j && p j) ≡ false

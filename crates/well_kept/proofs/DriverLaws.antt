@@ -1,24 +1,24 @@
 -- What one window tells of the whole archive. Assumes nothing.
 use Prim.Native.Nat.{ℕ, zero, suc, _+_, _-_, _≤_, _<_}
-use mathlib.Core.Path.{_≡_, refl, sym, ap, _∙_}
+use mathlib.Core.Path.{_≡_, refl, _∙_}
 use mathlib.Core.Logic.{inl}
-use mathlib.Core.List.{List, [], _∷_, _++_}
-use mathlib.Core.Bool.{Bool, true, false, true≢false}
+use mathlib.Core.List.{List}
+use mathlib.Core.Bool.{Bool, true, false}
 use native.Mathlib.Omega.{arith}
 use native.Mathlib.Numerals.{add-one}
-use native.Mathlib.Decide.{ℕ-discrete, decLt, decLe}
-use lib.ListN.{length, take, length-append}
-use borrow.Author.Tests.{eqb-true, eq-eqb, ne-eqb}
+use native.Mathlib.Decide.{ℕ-discrete, decLe}
+use lib.ListN.{length, length-append}
+use borrow.Author.Tests.{eq-eqb, ne-eqb}
 use Rattle.codec.specs.Num.{AreBytes}
 use Rattle.codec.specs.Every.{countBelow}
 use Rattle.codec.proofs.CountLaws.{count-none, count-passed, count-failed, count-empty}
 use Rattle.lists.specs.Lists.{is, count, same, Arranged}
 use Rattle.archive.specs.Archive.{archiveTest, records}
 use Rattle.well_kept.specs.WellKept.{wellKept}
-use Rattle.well_kept.specs.Keys.{keyAt, noKey, hasKey, times, runsOn, lastFrom, within, keysIn}
+use Rattle.well_kept.specs.Keys.{keyAt, noKey, hasKey, times, runsOn, lastFrom, keysIn}
 use Rattle.well_kept.specs.Windows.{Gathered, Stands, Checked}
 use Rattle.well_kept.specs.declared.Window.{Window}
-use Rattle.well_kept.proofs.KeyLaws.{key-own, key-below, key-found, stands-kept, kept-stands}
+use Rattle.well_kept.proofs.KeyLaws.{key-own, key-below, stands-kept, kept-stands}
 use Rattle.well_kept.proofs.WindowLaws.{within-yes, within-out, keys-none, keys-more, keys-same, keys-count, keys-inside, Left, run-checks, run-fails}
 
 module _ (a : List ℕ) (tested : archiveTest a ≡ true) (bytes : AreBytes a) where

@@ -14,7 +14,7 @@ use Rattle.codec.proofs.CountLaws.{count-has, count-single}
 use Rattle.archive.specs.Archive.{archiveTest, records}
 use Rattle.well_kept.specs.WellKept.{wellKept}
 use Rattle.well_kept.specs.Keys.{keyAt, hasKey, times, follows}
-use Rattle.well_kept.specs.Windows.{Rising, Stands}
+use Rattle.well_kept.specs.Windows.{Rising}
 use Rattle.well_kept.proofs.KeyLaws.{follows-is, key-found, stands-kept}
 
 module _ (a : List ℕ) where

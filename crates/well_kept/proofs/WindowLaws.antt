@@ -3,12 +3,12 @@ use Prim.Native.Nat.{ℕ, zero, suc, _+_, _-_, _%_, _≤_, _<_}
 use mathlib.Core.Path.{_≡_, refl, sym, ap, _∙_}
 use mathlib.Core.Logic.{_⊎_, inl, inr}
 use mathlib.Core.List.{List, [], _∷_, _++_}
-use mathlib.Core.Bool.{Bool, true, false, _&&_, cond, and-false, true≢false}
+use mathlib.Core.Bool.{Bool, true, false, and-false, true≢false}
 use native.Mathlib.Omega.{arith}
 use native.Mathlib.Numerals.{add-one}
 use native.Mathlib.Decide.{ℕ-discrete, decLt, decLe}
-use lib.Dec.{eqb, leb, ltb}
-use lib.ListN.{length, getD, set, take, length-append, length-set}
+use lib.Dec.{ltb}
+use lib.ListN.{length, getD, set, length-append}
 use lib.Seq.{take-suc-set}
 use borrow.Author.Tests.{lt-ltb, le-ltb, le-leb, lt-leb, eq-eqb, ne-eqb}
 use Rattle.codec.specs.Every.{countBelow}
@@ -16,7 +16,7 @@ use Rattle.codec.proofs.EveryLaws.{both}
 use Rattle.codec.proofs.CountLaws.{count-none, count-passed, count-failed}
 use Rattle.lists.specs.Lists.{is, count, Up, same}
 use Rattle.lists.proofs.CountLaws.{is-itself, is-other, find, Stands as Stand}
-use Rattle.archive.specs.Archive.{archiveTest, records}
+use Rattle.archive.specs.Archive.{records}
 use Rattle.well_kept.specs.Keys.{keyAt, noKey, hasKey, times, follows, runsOn, lastFrom, within, keysIn}
 use Rattle.well_kept.specs.Windows.{Gathered, Stands, Checked}
 use Rattle.well_kept.specs.declared.Window.{Window}

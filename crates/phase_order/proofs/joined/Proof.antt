@@ -1,5 +1,4 @@
 use borrow.Author.Tests.{eq-eqb, ne-eqb}
-use borrow.Author.Needs.{needs}
 use Rattle.phase_order.proofs.joined.Statement.{statement}
 use Rattle.phase_order.proofs.joined.Tie as tie
 

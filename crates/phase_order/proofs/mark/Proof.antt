@@ -2,7 +2,6 @@ use Prim.Native.Nat.{ℕ, _+_, _*_, _-_, _/_, _≤_, _<_}
 use mathlib.Core.Path.{_≡_, refl, sym, ap, _∙_}
 use mathlib.Core.List.{List}
 use native.Mathlib.Omega.{arith}
-use denote.Ref.{now}
 use lib.ListN.{length, getD, set, length-set}
 use borrow.Author.Needs.{needs}
 use mathlib.Core.Bool.{Bool, true, false, cond}

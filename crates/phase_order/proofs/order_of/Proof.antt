@@ -1,14 +1,12 @@
-use Prim.Native.Nat.{_<_, _≤_}
+use Prim.Native.Nat.{_<_}
 use mathlib.Core.Path.{_≡_, _∙_, sym}
 use mathlib.Core.Bool.{true}
 use borrow.Author.Tests.{not-true, not-false, lt-ltb, le-ltb}
 use native.Mathlib.Omega.{arith}
 use denote.Ref.{now}
-use lib.ListN.{getD}
 use borrow.Author.Needs.{needs}
 use Rattle.archive.specs.Archive.{archiveTest, records}
-use Rattle.well_kept.specs.WellKept.{wellKept}
-use Rattle.events.specs.Events.{eventAt, stationAt, ownAt}
+use Rattle.events.specs.Events.{stationAt, ownAt}
 use Rattle.events.proofs.Laws.{station-small, own-some}
 use Rattle.phase_order.specs.ByNumber.{orderOf}
 use Rattle.phase_order.proofs.Laws.{order-is}

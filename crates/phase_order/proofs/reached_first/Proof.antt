@@ -1,9 +1,8 @@
-use Prim.Native.Nat.{ℕ, _≤_}
-use mathlib.Core.Path.{_≡_, refl, sym, _∙_}
-use mathlib.Core.Bool.{Bool, cond}
+use Prim.Native.Nat.{ℕ}
+use mathlib.Core.Path.{_∙_}
 use native.Mathlib.Omega.{arith}
 use denote.Ref.{now}
-use lib.ListN.{length, getD, getD-replicate}
+use lib.ListN.{getD-replicate}
 use borrow.Author.Needs.{needs}
 use Rattle.phase_order.proofs.ReachLaws.{first-reached}
 use Rattle.phase_order.proofs.reached_first.Statement.{statement}

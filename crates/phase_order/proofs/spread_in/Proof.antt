@@ -1,13 +1,12 @@
-use Prim.Native.Nat.{ℕ, _+_, _*_, _-_, _/_, _≤_, _<_}
-use mathlib.Core.Path.{_≡_, refl, sym, _∙_}
+use Prim.Native.Nat.{ℕ, _+_, _/_}
+use mathlib.Core.Path.{_≡_}
 use mathlib.Core.List.{List}
 use native.Mathlib.Omega.{arith}
 use denote.Ref.{now}
-use lib.ListN.{length, getD}
+use lib.ListN.{length}
 use borrow.Author.Needs.{needs}
 use Rattle.record.specs.declared.Record.{Record}
-use Rattle.archive.specs.Archive.{archiveTest, records}
-use Rattle.phase_order.specs.Passes.{Table, Reaches}
+use Rattle.phase_order.specs.Passes.{Reaches}
 use Rattle.phase_order.proofs.ReachLaws.{table-stays, table-joins}
 use Rattle.phase_order.proofs.spread_in.Statement.{statement}
 use Rattle.phase_order.proofs.spread_in.Tie as tie

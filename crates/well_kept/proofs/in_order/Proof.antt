@@ -1,9 +1,9 @@
-use Prim.Native.Nat.{_-_, _≤_, _<_, _/_, _%_}
+use Prim.Native.Nat.{_-_, _≤_}
 use native.Mathlib.Omega.{arith}
 use mathlib.Core.Path.{_≡_, sym, _∙_, refl}
 use mathlib.Core.Bool.{true≢false}
 use denote.Ref.{now}
-use borrow.Author.Tests.{not-true, not-false}
+use borrow.Author.Tests.{not-false}
 use borrow.Author.Needs.{needs}
 use Rattle.codec.specs.Num.{AreBytes}
 use Rattle.archive.specs.Archive.{records}

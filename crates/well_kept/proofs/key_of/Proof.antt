@@ -1,10 +1,8 @@
 use Prim.Native.Nat.{_≤_, _<_}
 use native.Mathlib.Omega.{arith}
-use mathlib.Core.Path.{_≡_, ap, _∙_, sym}
 use denote.Ref.{now}
 use borrow.Author.Needs.{needs}
-use Rattle.record.specs.declared.Record.{Record}
-use Rattle.events.specs.Events.{eventAt, stationAt}
+use Rattle.events.specs.Events.{stationAt}
 use Rattle.events.proofs.Laws.{station-small, phase-small}
 use Rattle.well_kept.specs.Keys.{keyOf}
 use Rattle.well_kept.proofs.key_of.Statement.{statement}

@@ -1,9 +1,6 @@
-use Prim.Native.Nat.{ℕ, _+_, _≤_, _<_}
 use native.Mathlib.Omega.{arith}
-use mathlib.Core.Path.{_≡_, sym, _∙_, refl}
-use mathlib.Core.List.{List}
-use denote.Ref.{now}
-use lib.ListN.{length, set, length-set}
+use mathlib.Core.Path.{refl}
+use lib.ListN.{length-set}
 use borrow.Author.Needs.{needs}
 use Rattle.well_kept.proofs.WindowLaws.{gathered-behind, gathered-before, gathered-in}
 use Rattle.well_kept.proofs.with_key.Statement.{statement}
