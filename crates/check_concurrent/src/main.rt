@@ -1,4 +1,4 @@
-// Makes archives through the writers, and writes what lists and verdicts by numbers answer. A line of the input is a call: its number, its
+// Makes archives through the writers, and writes what lists and verdicts on found records answer. A line of the input is a call: its number, its
 // numbers, and behind a bar what is written of it, with the rest of its numbers; the answer follows. Calls 1 to 4 are on a part of the bytes,
 // from a byte up to another: 1 a list, 2 the verdicts on a record and all up to a number, 3 one verdict, 4 the count; from 10 on they make the
 // bytes: 10 an archive of so many records, 11 its block 2 with so many, 12 a byte of a block set and the block sealed, 13 a byte set, 14 a
