@@ -1,11 +1,13 @@
 // A whole archive: its test, its records, and a found record as a part of the caller's own bytes.
+#![tactic(auto)]
+
 ghost use Rattle.std.specs.Prelude.{◌≡◌, true, ◌≤◌, ◌+◌, ◌*◌, length};
 ghost use Rattle.header.specs.Header.{parse_header, table_at};
 ghost use Rattle.front_table.specs.Fronts.{Fronts};
 ghost use Rattle.archive.specs.Archive.{blocks_fit, archive_test, records as records_of, record_at, count_records, find_record, found_record};
 
 // How many there are, or a refusal's number.
-#[derive(Drop)]
+#[derive(Clone, Copy)]
 pub enum Counted {
     Count(usize),
     Refused(u8),

@@ -1,4 +1,6 @@
 // The test of the state area, where it stands: no state is made of it.
+#![tactic(auto)]
+
 ghost use Rattle.std.specs.Prelude.{◌≡◌, true, ◌&&◌, ◌-◌, ◌*◌, ◌+◌, ◌/◌, ◌%◌, ◌≤◌, ◌<◌, length, take, drop};
 ghost use Rattle.codec.specs.Every.{all_zero};
 ghost use Rattle.reset.specs.Config.{well_made, places};

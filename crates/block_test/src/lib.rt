@@ -1,4 +1,6 @@
 // The test of an entries block in an archive, of all its records together.
+#![tactic(auto)]
+
 ghost use Rattle.std.specs.Prelude.{◌≡◌, ℕ, min, ◌≤◌, ◌<◌, ◌+◌, ◌*◌, ◌/◌, eqb, leb, length};
 ghost use Rattle.codec.specs.Every.{every};
 ghost use Rattle.header.specs.Header.{parse_header, table_at};
@@ -52,7 +54,7 @@ fn smaller(x: u16, y: u16) -> u16
 
 // What is seen of a block's records, gathered with no branch: where first bytes are wrong, spare bytes and phases, each
 // joined by `|`. Of their stations' own counts the least is kept, or 1.
-#[derive(Drop)]
+#[derive(Clone, Copy)]
 struct Seen {
     wrong: u32,
     least: u16,

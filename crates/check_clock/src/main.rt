@@ -1,4 +1,6 @@
 // Runs the vectors of `clock`, and writes a line for each.
+#![tactic(auto)]
+
 ghost use Rattle.std.specs.Prelude.{◌≡◌, ◌<◌, get_or};
 
 use clock::Verdict;

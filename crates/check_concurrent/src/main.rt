@@ -3,6 +3,8 @@
 // from a byte up to another: 1 a list, 2 the verdicts on a record and all up to a number, 3 one verdict, 4 the count; from 10 on they make the
 // bytes: 10 an archive of so many records, 11 its block 2 with so many, 12 a byte of a block set and the block sealed, 13 a byte set, 14 a
 // byte raised; 15 ends a line.
+#![tactic(auto)]
+
 ghost use Rattle.std.specs.Prelude.{◌≡◌, ◌*◌, ◌<◌, ◌≤◌, length};
 
 use archive::Counted;

@@ -1,5 +1,7 @@
 // Drives networks over a lent area. A line of the input is a call: its number, its numbers, and behind a bar what is written of it; what it
 // answers follows. `case` has the calls.
+#![tactic(auto)]
+
 mod drain;
 mod setups;
 mod show;

@@ -3,6 +3,8 @@
 // a after, s same, u unordered) or a refusal's number. Calls 1 and 2 are on the first so many bytes: 1 how a record stands to so many from
 // record 0 on, 2 so many pairs. From 10 on they make the bytes: 10 a record (its number, its station, its phase and its counts), 11 an
 // archive (its stations, its ceiling) of so many records, 12 a byte raised; 13 ends a line.
+#![tactic(auto)]
+
 ghost use Rattle.std.specs.Prelude.{◌≡◌, ◌*◌, ◌≤◌, length};
 
 use clock::Verdict;

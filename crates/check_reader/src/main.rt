@@ -1,5 +1,7 @@
 // Makes archives of few records and bytes that are none, takes a reader through each, and writes what every call answers: the
 // refusal, and the register number of the record that the reader then hands back.
+#![tactic(auto)]
+
 ghost use Rattle.std.specs.Prelude.{◌+◌, ◌≤◌, ◌<◌};
 
 use header::Header;

@@ -1,6 +1,8 @@
 // Runs the vectors of `record`, `entries` and `verdict`. A line of the input is a case: first numbers that are not shown, the number of the
 // call before the others, and behind a bar what is written of it, with the rest of its numbers. The answer follows, or how many of a class
 // of cases were answered so. Calls 1 to 9 are those of `check_vectors::sweep` and `table`; 10 to 13 make the bytes that the next cases are on.
+#![tactic(auto)]
+
 mod blocks;
 mod records;
 mod verdicts;

@@ -1,4 +1,6 @@
 // Runs networks through the network rules, and writes a line for each: the network, a number, and whether it keeps them.
+#![tactic(auto)]
+
 ghost use Rattle.std.specs.Prelude.{◌<◌, ◌≤◌};
 
 use header::Header;

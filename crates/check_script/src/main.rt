@@ -1,4 +1,6 @@
 // Prints what each line of the input says, and then lines of turnover's output with values at their ends.
+#![tactic(auto)]
+
 ghost use Rattle.std.specs.Prelude.{◌≡◌, ◌<◌, ◌≤◌, length};
 ghost use Rattle.turnover_input.specs.Kept.{line_size};
 
@@ -7,7 +9,7 @@ use turnover_input::command::Command;
 use turnover_input::lines::Filled;
 
 // How much of a line is kept between reads, and whether more may come.
-#[derive(Drop)]
+#[derive(Clone, Copy)]
 struct Reading {
     have: usize,
     open: bool,

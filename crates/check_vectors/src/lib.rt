@@ -1,5 +1,7 @@
 // What the programs that run vectors share: bytes that are set, copied, sealed and counted, lines that are read and written, and classes of
 // cases. A line of a program's input is a case: its numbers, and behind a bar what is written of it, with the rest of its numbers.
+#![tactic(auto)]
+
 mod sweeps;
 
 ghost use Rattle.std.specs.Prelude.{◌<◌, ◌≤◌, length};

@@ -1,4 +1,6 @@
 // The check of a block: read, and written.
+#![tactic(auto)]
+
 ghost use Rattle.std.specs.Prelude.{◌≡◌, true, ◌&&◌, ◌+◌, ◌*◌, ◌<◌, ◌≤◌, length, take, drop};
 ghost use Rattle.codec.specs.Every.{all_zero};
 ghost use Rattle.checksum.specs.Check.{weighted, check_of, sealed as Sealed, seal_of};
@@ -8,7 +10,7 @@ ghost use Rattle.checksum.specs.Columns.{column_share, column_sum, column_rows, 
 pub const BLOCK: usize = 512;
 
 // The sum of a column, and the sum of its bytes, each times its row.
-#[derive(Drop)]
+#[derive(Clone, Copy)]
 struct Sums {
     low: u16,
     high: u16,

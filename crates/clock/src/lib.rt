@@ -1,4 +1,6 @@
 // Timestamps: eight counts, one for each station.
+#![tactic(auto)]
+
 ghost use Rattle.std.specs.Prelude.{◌≡◌, max, ◌<◌, get_or};
 ghost use Rattle.clock.specs.Timestamp.{tick, merged, raised, news as News};
 ghost use Rattle.clock.specs.Order.{by_flags, verdict_of};
@@ -8,7 +10,7 @@ ghost use Rattle.clock.specs.Range.{ceiling_of, counts_fit};
 pub const LAST_PHASE: u32 = 999999;
 
 // How the first of two timestamps stands to the second. Unordered: concurrent.
-#[derive(Drop)]
+#[derive(Clone, Copy)]
 pub enum Verdict {
     Before,
     After,

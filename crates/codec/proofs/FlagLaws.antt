@@ -1,7 +1,7 @@
 -- Laws of flags: a test of every index gathered without a branch, and tests made of others. Assumes nothing.
 use Prim.Native.Nat.{ℕ, zero, suc, ◌+◌, ◌*◌, ◌≤◌, ◌<◌}
 use mathlib.Core.Path.{◌≡◌, refl, sym}
-use mathlib.Core.Bool.{Bool, true, false, not, ◌&&◌, ◌||◌, and-false, and_true, and_assoc}
+use mathlib.Core.Bool.{Bool, true, false, not, ◌&&◌, ◌||◌, and-false, and-true, and_assoc}
 use native.Mathlib.Omega.{arith}
 use native.Mathlib.Numerals.{add-one}
 use native.Mathlib.Nat.{zero-mul, suc-mul}
@@ -56,7 +56,7 @@ every_both s p q h (suc n) = rw (h n, every_both s p q h n) (and-swap (every n p
 -- a test of n + m indices in two parts
 every-add : (n m : ℕ) (p : ℕ → Bool) → every (n + m) p ≡ (every n p && every m (λ (i : ℕ). p (n + i)))
 unfolding every
-every-add n zero p = let e : n + 0 ≡ n = omega arith in rw (e, and_true)
+every-add n zero p = let e : n + 0 ≡ n = omega arith in rw (e, and-true)
 every-add n (suc m) p =
     let e : n + suc m ≡ suc (n + m) = omega arith in
     rw (e, every-add n m p) (and_assoc (every n p) (every m (λ (i : ℕ). p (n + i))) (p (n + m)))

@@ -1,4 +1,6 @@
 // Little-endian numbers in slices of bytes; runs of zeros; copies.
+#![tactic(auto)]
+
 ghost use Rattle.std.specs.Prelude.{◌≡◌, ◌+◌, ◌*◌, ◌<◌, ◌≤◌, length, take, drop};
 ghost use Rattle.codec.specs.Splice.{splice};
 ghost use Rattle.codec.specs.Num.{bytes_of, num_at, nums_at, nums_of};

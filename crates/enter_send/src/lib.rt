@@ -1,4 +1,6 @@
 // Own entries and sends over an area that passed its test: every refusal is decided before anything is written.
+#![tactic(auto)]
+
 ghost use Rattle.std.specs.Prelude.{◌≡◌, true, ◌+◌, ◌*◌, ◌≤◌, ◌<◌, length, get_or};
 ghost use Rattle.reset.specs.Steps.{enter as Enter, send as Send, may_send};
 ghost use Rattle.station.specs.View.{mode_view, station_view};

@@ -1,11 +1,13 @@
 // The entries block of an archive: 512 bytes with one to fifteen records.
+#![tactic(auto)]
+
 ghost use Rattle.std.specs.Prelude.{◌≡◌, [], ◌∷◌, ◌≤◌, ◌<◌, ◌*◌, length};
 ghost use Rattle.codec.specs.Splice.{splice};
 ghost use Rattle.entries.specs.Starts.{record_start};
 ghost use Rattle.entries.specs.Entries.{count_of, fields_fit, front_fits, records_fit, tail_fits, body_fits, well_made_entries, image_entries, entries_fit, write_entries, read_entries, read_record};
 
 // What a block reader finds: the block's number and its count of records, or a refusal's number.
-#[derive(Drop)]
+#[derive(Clone, Copy)]
 pub enum EntriesRead {
     Block { number: u32, count: u8 },
     Refused(u8),

@@ -1,4 +1,6 @@
 // The records of a tested archive as events: one by its number, those of a block, and one after the other by their places.
+#![tactic(auto)]
+
 ghost use Rattle.std.specs.Prelude.{◌≡◌, true, ◌+◌, ◌<◌, length, get_or};
 ghost use Rattle.record.specs.Record.{parse_record};
 ghost use Rattle.entries.specs.Entries.{record_of};
@@ -48,7 +50,7 @@ pub fn count_in(block: &[u8], k: usize, s: usize) -> u16
 }
 
 // Where a record stands: its number, its block and its place there. A pass over all records counts all three, so that no number is divided.
-#[derive(Drop)]
+#[derive(Clone, Copy)]
 pub struct Place {
     pub number: usize,
     pub block: usize,

@@ -1,5 +1,7 @@
 // The records that numbers name, copied out of the blocks that hold them: each such block is fetched once, however many of its records are wanted and
 // however often.
+#![tactic(auto)]
+
 ghost use Rattle.std.specs.Prelude.{◌≡◌, true, false, cond, ℕ, ◌+◌, ◌*◌, ◌/◌, ◌%◌, ◌≤◌, ◌<◌, length};
 ghost use Rattle.codec.specs.Splice.{splice};
 ghost use Rattle.entries.specs.Entries.{record_of};

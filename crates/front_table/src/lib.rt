@@ -1,4 +1,6 @@
 // The table of first bytes: what the first four bytes of a record may be, by the header of its archive.
+#![tactic(auto)]
+
 ghost use Rattle.std.specs.Prelude.{◌≡◌, cond, ◌≤◌, ◌<◌, ◌+◌, ◌*◌, eqb, length, get_or};
 ghost use Rattle.header.specs.Header.{table_at};
 ghost use Rattle.front_table.specs.Fronts.{limit_of, Row, Fronts, place_of};

@@ -3,7 +3,7 @@ use Prim.Native.Nat.{ℕ, zero, suc, ◌+◌, ◌*◌, ◌/◌, ◌%◌, ◌<◌
 use mathlib.Core.Path.{◌≡◌, refl, ◌∙◌, sym, ap}
 use mathlib.Core.Logic.{◌≢◌}
 use mathlib.Core.List.{List, [], ◌∷◌, ◌++◌}
-use mathlib.Core.Bool.{Bool, true, false, ◌&&◌, and-false, and_true}
+use mathlib.Core.Bool.{Bool, true, false, ◌&&◌, and-false, and-true}
 use native.Mathlib.Omega.{arith}
 use lib.Dec.{eqb, leb}
 use lib.ListN.{length, get_or, take, drop, set, length-append, length-set, length-take, length-drop}
@@ -58,7 +58,7 @@ in_order_lem a false z y f = and-false a
 in_order_lem a true z y false = simp and-false
 in_order_lem a true z false true = simp and-false
 in_order_lem a true false true true = and-false a
-in_order_lem a true true true true = and_true a
+in_order_lem a true true true true = and-true a
 
 -- the test of 512 bytes, the check last
 pub check_last : (l : List ℕ) → length l ≡ 512

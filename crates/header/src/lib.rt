@@ -1,11 +1,13 @@
 // The header block of an archive: 512 bytes with the network's fields.
+#![tactic(auto)]
+
 ghost use Rattle.std.specs.Prelude.{◌≡◌, [], ◌∷◌, ◌≤◌, ◌+◌, length, take, drop};
 ghost use Rattle.codec.specs.Every.{all_zero};
 ghost use Rattle.codec.specs.Splice.{splice};
 ghost use Rattle.header.specs.Header.{row_in_range, limits_in_range, header_fits, bytes_at, table_at, table_of, parse_header, well_made_header, image_header, write_header, read_header, read_limits};
 
 // The fields of a header but for the limits, which stand beside it as an array of arrays.
-#[derive(Drop)]
+#[derive(Clone, Copy)]
 pub struct Header {
     pub n: u8,
     pub t: u16,
@@ -13,7 +15,7 @@ pub struct Header {
 }
 
 // A refusal's number, or 0 and the fields.
-#[derive(Drop)]
+#[derive(Clone, Copy)]
 pub struct HeaderRead {
     pub refusal: u8,
     pub header: Header,

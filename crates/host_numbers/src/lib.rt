@@ -1,4 +1,6 @@
 // The numbers that a host's calls return, and the fields of a header as a host gives and takes them.
+#![tactic(auto)]
+
 ghost use Rattle.std.specs.Prelude.{◌≡◌, ◌≤◌, ◌+◌, length};
 ghost use Rattle.codec.specs.Splice.{splice};
 ghost use Rattle.header.specs.Header.{table_at, parse_header};

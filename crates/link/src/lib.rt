@@ -1,4 +1,6 @@
 // A link's queue in a lent part of 715 bytes: 34 places of 21 bytes.
+#![tactic(auto)]
+
 ghost use Rattle.std.specs.Prelude.{◌≡◌, [], ◌∷◌, ◌++◌, ◌<◌, ◌≤◌, length, drop, get_or, eqb, ◌&&◌, ◌||◌};
 ghost use Rattle.codec.specs.Num.{bytes_of, nums_of};
 ghost use Rattle.codec.specs.Every.{all_zero};
@@ -27,7 +29,7 @@ pub fn places(limit: u8) -> u32
 }
 
 // Kind 1 is a message, 2 reset_req, 3 reset_done; the register number and the counts are a message's.
-#[derive(Drop)]
+#[derive(Clone, Copy)]
 pub struct Item {
     pub kind: u8,
     pub register: u32,

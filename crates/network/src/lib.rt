@@ -1,4 +1,6 @@
 // The network in a lent area: the four steps, each on an area of any length and content.
+#![tactic(auto)]
+
 ghost use Rattle.reset.specs.Steps.{enter as Enter, send as Send, recv as Recv, start as Start};
 ghost use Rattle.network.specs.Answers.{Steps};
 

@@ -1,6 +1,8 @@
 // The order of two records of any phases of an archive. Which stations the earlier record reaches is told phase by phase, and a phase in which
 // none joins is passed over: one pass finds the next phase in which a station that is not reached knows one that is, and one more has the last
 // timestamps of that phase and those behind it.
+#![tactic(auto)]
+
 ghost use Rattle.std.specs.Prelude.{◌≡◌, List, true, false, cond, ℕ, ◌+◌, ◌*◌, ◌%◌, min, ◌≤◌, ◌<◌, eqb, length, get_or};
 ghost use Rattle.record.specs.declared.Record.{Record as Event};
 ghost use Rattle.archive.specs.Archive.{archive_test, records as records_of};
@@ -196,7 +198,7 @@ fn lesser(x: usize, y: usize) -> usize
 }
 
 // Stations reached before a phase.
-#[derive(Drop)]
+#[derive(Clone, Copy)]
 pub struct Spread {
     pub reached: [u16; 8],
     pub next: u32,

@@ -1,4 +1,6 @@
 // A queue of items of one width in lent bytes: the count of its items, the items packed from the front, zeros after the last.
+#![tactic(auto)]
+
 ghost use Rattle.std.specs.Prelude.{◌≡◌, ◌++◌, ◌+◌, ◌*◌, ◌-◌, ◌<◌, ◌≤◌, length, drop, get_or};
 ghost use Rattle.codec.specs.Every.{blank};
 ghost use Rattle.queue.specs.Queue.{place_at, pushed, popped};

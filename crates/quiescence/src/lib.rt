@@ -1,4 +1,6 @@
 // Rest: whether the network of an area is quiescent.
+#![tactic(auto)]
+
 ghost use Rattle.std.specs.Prelude.{◌≡◌, ◌≤◌, length};
 ghost use Rattle.reset.specs.Network.{stations_quiescent, links_empty};
 ghost use Rattle.link.specs.Image.{sized};
@@ -6,7 +8,7 @@ ghost use Rattle.area.specs.Layout.{area_size, state_at};
 ghost use Rattle.area_calls.specs.Calls.{rest_on};
 ghost use Rattle.quiescence.specs.View.{rest_view};
 
-#[derive(Drop)]
+#[derive(Clone, Copy)]
 pub enum RestAnswer {
     Yes,
     No,

@@ -2,7 +2,7 @@
 use Prim.Native.Nat.{ℕ, zero, suc, ◌≤◌, ◌<◌}
 use mathlib.Core.Path.{◌≡◌, refl, sym, ap}
 use mathlib.Core.List.{List, [], ◌∷◌}
-use mathlib.Core.Bool.{Bool, true, false, not, ◌||◌, and_true, true≢false}
+use mathlib.Core.Bool.{Bool, true, false, not, ◌||◌, and-true, true≢false}
 use native.Mathlib.Omega.{arith}
 use native.Mathlib.Decide.{ℕ_discrete, dec_lt}
 use lib.Dec.{eqb}
@@ -28,7 +28,7 @@ one_fails (suc n) p e = go (p n) refl (one_fails n p)
   where
     go : (b : Bool) → p n ≡ b → (every n p ≡ false → (i : ℕ) × (i < n) × (p i ≡ false)) → (i : ℕ) × (i < suc n) × (p i ≡ false)
     go false f rec = (n, omega arith, f)
-    go true f rec = let r = rec (rw (f, and_true) at e) in (r.0, omega (arith, r.1), r.2)
+    go true f rec = let r = rec (rw (f, and-true) at e) in (r.0, omega (arith, r.1), r.2)
 
 earlier : (m : List (List ℕ)) (j : ℕ) → has_earlier m j ≡ true → (i : ℕ) × (i < j) × (linked m i j ≡ true)
 unfolding has_earlier linked

@@ -1,4 +1,6 @@
 // Which stations can be reached from station 0, by spreading over neighbours.
+#![tactic(auto)]
+
 ghost use Rattle.std.specs.Prelude.{◌≡◌, ◌<◌, ◌≤◌};
 ghost use Rattle.reset.specs.Reach.{apart, joins, first, reached, every_reached};
 ghost use Rattle.reach.specs.Order.{has_earlier, in_order};

@@ -1,12 +1,14 @@
 // A reader of an archive: a struct that holds the archive and a record's number. The work is done by functions on a slice and
 // numbers; those over the struct are thin. The archive is tested once, when the reader is made.
+#![tactic(auto)]
+
 ghost use Rattle.std.specs.Prelude.{◌≡◌};
 ghost use Rattle.archive.specs.Archive.{records, record_at};
 ghost use Rattle.reader.specs.Reading.{tested_part, open_at, next_at, standing, opened, advanced};
 ghost use Rattle.reader.specs.Made.{MadeOf};
 
 // Where a reader stands after it was opened or moved on: a refusal's number, and where it was; or 0 and where it is now.
-#[derive(Drop)]
+#[derive(Clone, Copy)]
 struct Place {
     at: usize,
     refusal: u8,

@@ -1,4 +1,6 @@
 // Receipts to rest: how many receipts, in whichever order, empty the links of the network of an area.
+#![tactic(auto)]
+
 ghost use Rattle.std.specs.Prelude.{◌≡◌, true, ℕ, ◌*◌, ◌-◌, ◌<◌, ◌≤◌, max, length, get_or};
 ghost use Rattle.codec.specs.Every.{sum};
 ghost use Rattle.clock.specs.Range.{last_phase};
@@ -11,7 +13,7 @@ ghost use Rattle.receipts.specs.View.{receipts_view};
 
 use station::{Mode, Station};
 
-#[derive(Drop)]
+#[derive(Clone, Copy)]
 pub enum ReceiptsAnswer {
     Left(u32),
     Refused(u8),

@@ -2,7 +2,7 @@
 use Prim.Native.Nat.{ℕ, ◌+◌, ◌*◌, ◌/◌, ◌<◌}
 use mathlib.Core.Path.{◌≡◌, refl, ◌∙◌, sym}
 use mathlib.Core.List.{List, [], ◌∷◌, ◌++◌}
-use mathlib.Core.Bool.{Bool, true, false, not, cond, ◌&&◌, ◌||◌, and_true, and-false, or-false}
+use mathlib.Core.Bool.{Bool, true, false, not, cond, ◌&&◌, ◌||◌, and-true, and-false, or-false}
 use native.Mathlib.Omega.{arith}
 use lib.ListN.{length, get_or, length-append}
 use lib.Dec.{eqb, leb, ltb}
@@ -98,7 +98,7 @@ half_one k = go (ℕ_discrete k 2) (ℕ_discrete k 3)
     go (no e) (no f) = rw (ne_eqb k 2 e, ne_eqb k 3 f, ne_eqb (k / 2) 1 (λ (h : k / 2 ≡ 1). omega arith))
 
 turned : (n h b e : Bool) → (n && (h && (b || false))) ≡ ((e && false) || (h && (b && n)))
-turned n true true e = rw (and-false, and_true)
+turned n true true e = rw (and-false, and-true)
 turned n true false e = rw (and-false, and-false)
 turned n false b e = rw (and-false, and-false)
 
@@ -111,7 +111,7 @@ peer_law k s p h = go (ℕ_discrete p 255)
     go (yes e) =
         let f : eqb 255 s ≡ false = ne_eqb 255 s (λ (q : 255 ≡ s). omega arith) in
         let g : 2 * k / 2 ≡ k = omega arith in
-        rw (e, f, g) (simp (and_true, and-false, or-false))
+        rw (e, f, g) (simp (and-true, and-false, or-false))
     go (no e) = rw (ne_eqb p 255 e, half_one k) (turned (not (eqb p s)) (eqb k 2 || eqb k 3) (ltb p 8) (eqb k 1))
 
 eighth : (x : ℕ) → eqb (x / 8) 0 ≡ ltb x 8

@@ -1,11 +1,13 @@
 // The 32-byte record of an event: tested, read and written.
+#![tactic(auto)]
+
 ghost use Rattle.std.specs.Prelude.{◌≡◌, [], ◌∷◌, ◌&&◌, cond, ◌*◌, ◌≤◌, ◌<◌, eqb, ltb, length, get_or};
 ghost use Rattle.codec.specs.Num.{num_at};
 ghost use Rattle.codec.specs.Splice.{splice};
 ghost use Rattle.record.specs.Record.{image_record, parse_record, peer_fits, record_fits, well_made_record};
 
 // An event: kind 1 own, 2 sent, 3 received; the peer of an own event is 255.
-#[derive(Drop)]
+#[derive(Clone, Copy)]
 pub struct Record {
     pub kind: u8,
     pub station: u8,

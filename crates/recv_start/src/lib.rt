@@ -1,4 +1,6 @@
 // Receipts, and starts of a reset, over an area that passed its test: every refusal is decided before anything is written.
+#![tactic(auto)]
+
 ghost use Rattle.std.specs.Prelude.{◌≡◌, List, ◌∷◌, true, ◌≤◌};
 ghost use Rattle.clock.specs.Range.{last_phase};
 ghost use Rattle.reset.specs.Clock.{vector};

@@ -1,4 +1,5 @@
 // The numbers of refusals, each with its cause, as document 01's table has them; 9 is none, and those from 13 on are document 02's.
+#![tactic(auto)]
 
 // A block, record or archive of a wrong length, check, field or spare byte.
 pub const MALFORMED: u8 = 1;

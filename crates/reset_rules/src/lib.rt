@@ -1,4 +1,6 @@
 // What the steps do to one station, by value: entries, messages, marks, and the reset rules with the control items that they send.
+#![tactic(auto)]
+
 ghost use Rattle.std.specs.Prelude.{◌≡◌, [], true, false, ℕ, suc, ◌+◌, ◌<◌, ◌≤◌, get_or};
 ghost use Rattle.clock.specs.Range.{last_phase};
 ghost use Rattle.clock.specs.Timestamp.{news};
@@ -17,7 +19,7 @@ use station::{Mode, Station};
 pub const NO_ITEM: u8 = 0;
 
 // A station after the reset rules, with the control items that go on every link out, in order.
-#[derive(Drop)]
+#[derive(Clone, Copy)]
 pub struct Turned {
     pub station: Station,
     pub first: u8,
@@ -25,7 +27,7 @@ pub struct Turned {
 }
 
 // A station that has taken a message, and the news that this brought.
-#[derive(Drop)]
+#[derive(Clone, Copy)]
 pub struct Received {
     pub station: Station,
     pub news: u8,

@@ -1,4 +1,6 @@
 // The network rules, on a header's fields. The limits are a table of eight rows, one for each sender.
+#![tactic(auto)]
+
 ghost use Rattle.std.specs.Prelude.{◌≡◌, ◌&&◌, ℕ, ◌<◌, ◌≤◌};
 ghost use Rattle.codec.specs.Every.{every, sum};
 ghost use Rattle.reset.specs.Config.{zero_diagonal, both_or_none, linked_both_ways, allowance_below, limit_below, between, within_ceiling, network_rules};

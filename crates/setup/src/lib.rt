@@ -1,4 +1,6 @@
 // Setup: the image of the initial network, written front to back.
+#![tactic(auto)]
+
 ghost use Rattle.std.specs.Prelude.{◌≡◌, ◌<◌, not, eqb, length, get_or};
 ghost use Rattle.codec.specs.Rows.{upto};
 ghost use Rattle.codec.specs.Splice.{splice};

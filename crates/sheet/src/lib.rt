@@ -1,5 +1,7 @@
 // The verdicts on many pairs of records of an archive in one go. The named records are copied out first, each block that holds some fetched once; then
 // each pair is compared from the copies alone. The archive is tested once.
+#![tactic(auto)]
+
 ghost use Rattle.std.specs.Prelude.{◌≡◌, true, ◌+◌, ◌*◌, ◌≤◌, length};
 ghost use Rattle.codec.specs.Splice.{splice};
 ghost use Rattle.verdict.specs.Numbers.{order_number};

@@ -1,4 +1,6 @@
 // A station's record by value, and in a lent part of 47 bytes.
+#![tactic(auto)]
+
 ghost use Rattle.std.specs.Prelude.{◌≡◌, ◌+◌, ◌<◌, ◌≤◌, cond, length};
 ghost use Rattle.codec.specs.Splice.{splice};
 ghost use Rattle.codec.specs.Rows.{upto};
@@ -14,7 +16,7 @@ ghost use Rattle.station.specs.Image.{station_size, mark_at, mode_of, mode_byte,
 // A record in bytes.
 pub const SIZE: usize = 47;
 
-#[derive(Drop)]
+#[derive(Clone, Copy)]
 pub enum Mode {
     Normal,
     Mute,
@@ -22,7 +24,7 @@ pub enum Mode {
 }
 
 // A station's record; the places of its arrays are for the eight stations.
-#[derive(Drop)]
+#[derive(Clone, Copy)]
 pub struct Station {
     pub counts: [u16; 8],
     pub sent: [u8; 8],

@@ -4,7 +4,7 @@
 use Prim.Native.Nat.{ℕ, ◌≤◌, ◌<◌, zero, suc, ◌+◌}
 use mathlib.Core.Path.{◌≡◌, refl, sym, ◌∙◌, ap}
 use mathlib.Core.Logic.{◌≢◌}
-use mathlib.Core.Bool.{Bool, true, false, ◌&&◌, and_true, not, ◌||◌}
+use mathlib.Core.Bool.{Bool, true, false, ◌&&◌, and-true, not, ◌||◌}
 use mathlib.Core.List.{List, ◌∷◌, [], ◌++◌, append_assoc, append-nil}
 use native.Mathlib.Omega.{arith}
 use native.Mathlib.Decide.{ℕ_discrete}
@@ -101,7 +101,7 @@ module _ (c : Config) (s : State vector) (v : Bounds c s) (i : ℕ) (il : i < 8)
       let s' : State vector = set_station s i x in
       let links : every 8 (link_bounded c s' i) ≡ true = every_of 8 (link_bounded c s' i) (λ j l. rw (link_set-station s i x i j) (v.links i j il l)) in
       entry-bounds s' (tick i time) (rw (station-set s i x)) (rw (station-set s i x)) (put_same 0 time i (suc (get_or time i 0))) ticked-count
-      (λ k n. station-set-other s i x k n) (λ a b n. rw (link_set-station s i x a b) (omega arith)) ∙ rw links (and_true _)
+      (λ k n. station-set-other s i x k n) (λ a b n. rw (link_set-station s i x a b) (omega arith)) ∙ rw links (and-true _)
 
   -- ---- a message taken, whose counts are at most t
   pub receive-bounds : (j : ℕ) (w : List ℕ) (g : ℕ) (q : List (Item vector)) → j < 8 → link_at s j i ≡ message w g ∷ q → ((k : ℕ) → k < 8 → get_or w k 0 ≤ c.t)
@@ -116,7 +116,7 @@ module _ (c : Config) (s : State vector) (v : Bounds c s) (i : ℕ) (il : i < 8)
       (put_same 0 (merged time w) i (suc (get_or time i 0)))
       (λ k l n. rw (put_other 0 (merged time w) i k (suc (get_or time i 0)) n) (merged-within time w c.t k (old_count k l) (small k l)))
       (λ k n. station-set_link t j i q k ∙ station-set-other s i x k n)
-      (λ a b n. rw (link_set-station s i x a b) at (taken_shorter t j i (message w g) q (link_set-station s i x j i ∙ held) a b)) ∙ rw links (and_true _)
+      (λ a b n. rw (link_set-station s i x a b) at (taken_shorter t j i (message w g) q (link_set-station s i x j i ∙ held) a b)) ∙ rw links (and-true _)
 
   -- ---- send
   pub send-bounds : (j g : ℕ) → j < 8

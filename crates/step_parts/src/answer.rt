@@ -17,7 +17,7 @@ pub const NO_PEER: u8 = 255;
 pub const NO_NEWS: u8 = 0;
 
 // A refusal's number; an accepted entry, with the news of a receipt and else 0; the mode and phase after.
-#[derive(Drop)]
+#[derive(Clone, Copy)]
 pub enum Answer {
     Refused(u8),
     Entered { news: u8 },
@@ -25,7 +25,7 @@ pub enum Answer {
 }
 
 // An answer, with the record of an accepted entry beside it.
-#[derive(Drop)]
+#[derive(Clone, Copy)]
 pub struct Stepped {
     pub answer: Answer,
     pub event: Record,

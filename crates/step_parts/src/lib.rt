@@ -1,4 +1,6 @@
 // What the four steps share: the header read, the answers, and what the reset rules lead a station to, tested and written.
+#![tactic(auto)]
+
 pub mod answer;
 pub mod config;
 pub mod turned;

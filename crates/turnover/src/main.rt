@@ -1,5 +1,7 @@
 // turnover: runs the network that standard input describes and prints what each step answers. What is printed is decided in turnover_session;
 // here the bytes of each read are handed on, and the answers written.
+#![tactic(auto)]
+
 ghost use Rattle.std.specs.Prelude.{◌≡◌, false, List, ℕ, ◌≤◌, length};
 ghost use Rattle.codec.specs.Every.{blank as Blank};
 ghost use Rattle.turnover_commands.specs.Run.{standing, Ready};
@@ -9,7 +11,7 @@ use turnover_session::Taken;
 use turnover_settings::Run;
 
 // Between reads: how much of a line is kept, whether more is read, whether a read or a write has failed, and the run.
-#[derive(Drop)]
+#[derive(Clone, Copy)]
 struct Reading {
     have: usize,
     open: bool,
@@ -18,7 +20,7 @@ struct Reading {
 }
 
 // Where the rest of what is printed ends in the buffer, and whether a read or a write has failed.
-#[derive(Drop)]
+#[derive(Clone, Copy)]
 struct Last {
     end: usize,
     failed: bool,

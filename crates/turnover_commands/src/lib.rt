@@ -1,4 +1,6 @@
 // A run of turnover, command by command: the settings before setup, the steps after it, and the line that each command prints.
+#![tactic(auto)]
+
 ghost use Rattle.std.specs.Prelude.{◌≡◌, true, List, ℕ, ◌+◌, ◌≤◌, length};
 ghost use Rattle.turnover_output.specs.Answer.{setup_text, longest};
 ghost use Rattle.turnover_output.specs.TextAt.{TextAt};
@@ -15,7 +17,7 @@ use turnover_input::command::Command;
 use turnover_settings::{Run, Stage};
 
 // The run after a command, and the place behind what was printed.
-#[derive(Drop)]
+#[derive(Clone, Copy)]
 pub struct Reply {
     pub run: Run,
     pub end: usize,

@@ -6,7 +6,7 @@ ghost use Rattle.turnover_input.specs.Parse.{made, of_one, of_two, of_three, lin
 use crate::fields::Numbers;
 
 // What a line says.
-#[derive(Drop)]
+#[derive(Clone, Copy)]
 pub enum Command {
     Net {
         n: u8,

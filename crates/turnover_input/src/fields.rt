@@ -4,7 +4,7 @@ ghost use Rattle.decimal.specs.Decimal.{digit};
 ghost use Rattle.turnover_input.specs.Fields.{greatest, item, first, more, seen, second_of, third_of, numbers_of};
 
 // What stands at a place of a line: its end, a number with the place behind it, or something else.
-#[derive(Drop)]
+#[derive(Clone, Copy)]
 pub enum Field {
     End,
     Number { value: u64, next: usize },
@@ -12,7 +12,7 @@ pub enum Field {
 }
 
 // What a line has from some place on: one, two or three numbers, or anything else.
-#[derive(Drop)]
+#[derive(Clone, Copy)]
 pub enum Numbers {
     One(u64),
     Two(u64, u64),

@@ -10,7 +10,7 @@ use crate::command::Command;
 pub const LINE_SIZE: usize = 32;
 
 // How much of a line is kept, the place behind what was read, and whether the line is whole.
-#[derive(Drop)]
+#[derive(Clone, Copy)]
 pub struct Filled {
     pub have: usize,
     pub next: usize,

@@ -1,4 +1,6 @@
 // Reads and writes of turnover, made again where a signal came or a file was not ready.
+#![tactic(auto)]
+
 use libc::types::timespec;
 use libc::{EAGAIN, EINTR, STDIN_FILENO, STDOUT_FILENO};
 

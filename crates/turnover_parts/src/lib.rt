@@ -1,4 +1,6 @@
 // A run of turnover over an input that comes in parts: as many lines as a lent buffer has room for the answers of, and the end of the input.
+#![tactic(auto)]
+
 ghost use Rattle.std.specs.Prelude.{◌≡◌, List, [], ℕ, ◌+◌, ◌≤◌, length};
 ghost use Rattle.turnover_output.specs.Answer.{longest};
 ghost use Rattle.turnover_output.specs.TextAt.{TextAt};

@@ -1,4 +1,6 @@
 // A run of turnover, a line of the input at a time: its answer is printed into a lent buffer.
+#![tactic(auto)]
+
 ghost use Rattle.std.specs.Prelude.{◌≡◌, ◌+◌, ◌≤◌, length};
 ghost use Rattle.turnover_output.specs.Answer.{longest};
 ghost use Rattle.turnover_input.specs.Kept.{line_size};
@@ -9,7 +11,7 @@ use turnover_output::answer::LONGEST;
 use turnover_settings::Run;
 
 // How much of a line is kept, the place behind what was read, the place behind what was printed, and the run.
-#[derive(Drop)]
+#[derive(Clone, Copy)]
 pub struct Taken {
     pub have: usize,
     pub next: usize,

@@ -1,4 +1,6 @@
 // The settings of a run of turnover before setup, and setup by them.
+#![tactic(auto)]
+
 ghost use Rattle.std.specs.Prelude.{◌≡◌, length};
 ghost use Rattle.codec.specs.Every.{blank};
 ghost use Rattle.turnover_settings.specs.Settings.{opened_run, named_run, staged_run, numbered_run, allowed_run, allowance_set, limit_set, link_set, settings_of, settings_block, set_up};
@@ -6,7 +8,7 @@ ghost use Rattle.turnover_settings.specs.Settings.{opened_run, named_run, staged
 use header::Header;
 
 // Where a run stands: before `net`, before setup, after setup, and behind a refused setup.
-#[derive(Drop)]
+#[derive(Clone, Copy)]
 pub enum Stage {
     Opening,
     Setting,
@@ -16,7 +18,7 @@ pub enum Stage {
 
 // The state of a run: its stage, the settings so far but for the limits, and the number of the last step. The limits stand beside it, where
 // a header block has them, in 512 lent bytes.
-#[derive(Drop)]
+#[derive(Clone, Copy)]
 pub struct Run {
     pub stage: Stage,
     pub n: u8,

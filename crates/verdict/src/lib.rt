@@ -1,4 +1,6 @@
 // The verdict on two 32-byte records.
+#![tactic(auto)]
+
 ghost use Rattle.std.specs.Prelude.{◌≡◌};
 ghost use Rattle.verdict.specs.Compare.{verdict_on};
 ghost use Rattle.verdict.specs.Numbers.{order_number};
@@ -15,7 +17,7 @@ pub const SAME: u8 = 102;
 pub const UNORDERED: u8 = 103;
 
 // A verdict, or a refusal's number.
-#[derive(Drop)]
+#[derive(Clone, Copy)]
 pub enum Compared {
     Ordered(Verdict),
     Refused(u8),

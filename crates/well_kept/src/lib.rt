@@ -1,6 +1,8 @@
 // Whether an archive is well kept: each station's own counts in a phase are 1, 2, 3 .., each once. Phase, station and own count of a record make
 // its key, so that the records' keys, in order, must go up by 1, or to a key with own count 1. Where the records of each station come in order,
 // as in every archive of a run, one pass tells. Else the keys are taken in windows, as many as have places on the stack, and each window is sorted.
+#![tactic(auto)]
+
 ghost use Rattle.std.specs.Prelude.{◌≡◌, List, true, ℕ, ◌+◌, min, ◌≤◌, ◌<◌, length};
 ghost use Rattle.lists.specs.Lists.{Arranged, same};
 ghost use Rattle.archive.specs.Archive.{archive_test, records as records_of};
@@ -68,7 +70,7 @@ fn in_order(a: &[u8]) -> bool
 }
 
 // How many keys a window has, and the least key behind it, or NO_KEY.
-#[derive(Drop)]
+#[derive(Clone, Copy)]
 pub struct Window {
     pub count: usize,
     pub next: u64,
@@ -123,7 +125,7 @@ fn gather(a: &[u8], lo: u64, hi: u64, list: &mut [u64]) -> Window
 }
 
 // Whether a list of keys runs on behind a key, and its last.
-#[derive(Drop)]
+#[derive(Clone, Copy)]
 pub struct Run {
     pub kept: bool,
     pub last: u64,

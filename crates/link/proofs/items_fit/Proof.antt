@@ -1,7 +1,7 @@
 use borrow.Author.Rules.{rules}
 use Prim.Native.Nat.{ℕ, ◌-◌, ◌≤◌}
 use mathlib.Core.Path.{◌≡◌, refl, ◌∙◌, sym}
-use mathlib.Core.Bool.{and_true}
+use mathlib.Core.Bool.{and-true}
 use native.Mathlib.Omega.{arith}
 use borrow.Author.Tests.{not-true, not-false, le-leb, lt-leb}
 use lib.ListN.{length, get_or}
@@ -51,7 +51,7 @@ returns-2 c =
 loop-again-2 : tie.Need-loop-preserved-2 invariant-loop decreases-loop
 loop-again-2 c =
     let l = c.before.before.before.before.before.before.loop in
-    (omega arith, l.invariant.1, rw (every_turn, tested c.before ∙ not-false _ c.if3.false, and_true) l.invariant.2)
+    (omega arith, l.invariant.1, rw (every_turn, tested c.before ∙ not-false _ c.if3.false, and-true) l.invariant.2)
 
 returns-3 : tie.Need-returns-3 invariant-loop decreases-loop
 unfolding items_test items_pass
