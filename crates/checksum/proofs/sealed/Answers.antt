@@ -1,0 +1,6 @@
+use Rattle.checksum.specs.Check.{sealed}
+use Rattle.checksum.proofs.sealed.Goals as goal
+
+pub returns : goal.returns
+unfolding sealed
+returns c = rw (c.get16.ensures, c.check.ensures)

@@ -1,0 +1,8 @@
+use borrow.Author.Tests.{lt-ltb, le-ltb}
+use Rattle.clock.proofs.ceiling.Goals as goal
+
+pub returns-then-k-n : goal.returns-then-k-n
+returns-then-k-n c = rw (lt-ltb _ _ c.if-k-n.true)
+
+pub returns-else-k-n : goal.returns-else-k-n
+returns-else-k-n c = rw (le-ltb _ _ c.if-k-n.false)
