@@ -78,7 +78,7 @@ module _ (c : Config) (h : well_made c ≡ true) where
 
 -- what the network rules say of any stations i and j
 pub record Rules (c : Config) : Type 0 where
-  pub both_ways_lem : (i j : ℕ) → neighbours c i j ≡ true → neighbours c j i ≡ true
+  pub both_ways : (i j : ℕ) → neighbours c i j ≡ true → neighbours c j i ≡ true
   pub loopless : (i : ℕ) → neighbours c i i ≡ true → ⊥
   pub inside : (i j : ℕ) → neighbours c i j ≡ true → j < c.n
   pub small : c.n ≤ 8
@@ -119,7 +119,7 @@ module _ (c : Config) (h : well_made c ≡ true) (r : network_rules c ≡ true) 
 
   pub rules : Rules c
   unfolding neighbours
-  rules = record { both_ways_lem = back; loopless = alone; inside = within_n; small = (shape c h).small }
+  rules = record { both_ways = back; loopless = alone; inside = within_n; small = (shape c h).small }
 
 -- a station is below n, every neighbour is one of the eight, and no station is its own
 pub station-below : (c : Config) (i : ℕ) → is_station c i ≡ true → i < c.n

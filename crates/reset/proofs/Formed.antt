@@ -164,7 +164,7 @@ module _ {K : Clock} (L : ClockRange K) (c : Config) (s : State K) (h : Formed c
           let u : AtMost c.t (K.stamp i x.time) = λ k kl. leb-true _ _ (rw e at ((bounds c _ b).counts i k below kl)) in
           let y : Item K = message (K.load i j v) g in
           let m : item_fits c y ≡ true
-          = join (K.load_fits c (K.load i j v)) _ (L.load_fits c i j v (L.tick-held c i _ si below parts.here.time) u) r in
+          = join (K.load_fits c (K.load i j v)) _ (L.load_fits_lem c i j v (L.tick-held c i _ si below parts.here.time) u) r in
           closed _ (parts_put L c i below _ m _ j near (parts_station L c i below s x f parts)) b
 
       -- the rest of a link, of which the first item is taken

@@ -68,7 +68,7 @@ module _ (c : Config) (u : Rules c) (r : network_rules c ≡ true) (s : State ve
 run-books : (c : Config) → Rules c → network_rules c ≡ true → (s : State vector) → Invariant c s → Books c s → (ps : List Step)
     → Invariant c (run c s ps) × Books c (run c s ps)
 run-books c u r s v w [] = (v, w)
-run-books c u r s v w (p ∷ ps) = run-books c u r _ (step_keeps c u s v p) (safe_step c u r s v w p).books ps
+run-books c u r s v w (p ∷ ps) = run-books c u r (step c s p).after (step_keeps c u s v p) (safe_step c u r s v w p).books ps
 
 pub initial-books : (c : Config) → Rules c → Books c (initial vector c)
 initial-books c u =

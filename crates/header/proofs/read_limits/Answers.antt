@@ -1,0 +1,15 @@
+use mathlib.Core.Path.{refl, ◌∙◌, sym}
+use Rattle.header.specs.Header.{read_limits}
+use Rattle.header.proofs.Laws.{well_made-length}
+use Rattle.header.proofs.read_limits.Goals as goal
+
+pub returns-then-not-well_made : goal.returns-then-not-well_made
+unfolding read_limits
+returns-then-not-well_made c = rw (sym c.well_made.ensures ∙ c.if-not-well_made.true) refl
+
+pub load_limits-requires : goal.load_limits-requires
+load_limits-requires c = well_made-length _ (sym c.well_made.ensures ∙ c.if-not-well_made.false)
+
+pub returns : goal.returns
+unfolding read_limits
+returns c = rw (sym c.well_made.ensures ∙ c.if-not-well_made.false) (cc)
