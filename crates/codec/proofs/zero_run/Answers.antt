@@ -1,4 +1,3 @@
-use Prim.Native.Nat.{◌-◌}
 use native.Mathlib.Omega.{arith}
 use Rattle.codec.proofs.RunLaws.{scanned_ends, scanned_more, scanned_all}
 use Rattle.codec.proofs.zero_run.Goals as goal
