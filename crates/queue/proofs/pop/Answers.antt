@@ -14,7 +14,7 @@ one : (n w : ℕ) → 0 < n → w ≤ n * w
 one n w h = rw (one-mul w) at (mul-le-mul_right {m = 1} {n = n} w (omega arith))
 
 pub overflow_cast-count : goal.overflow_cast-count
-overflow_cast-count c = omega (arith, c.slice_known-2-1.given 0)
+overflow_cast-count c = omega (arith, c.type_inv.part 0)
 
 pub drop_front-requires : goal.drop_front-requires
 drop_front-requires c =

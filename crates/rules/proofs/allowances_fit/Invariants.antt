@@ -1,0 +1,12 @@
+use Prim.Native.Nat.{ℕ, ◌-◌, ◌≤◌}
+use mathlib.Core.Path.{◌≡◌}
+use mathlib.Core.Bool.{true, ◌&&◌}
+use Rattle.codec.specs.Every.{every}
+use Rattle.reset.specs.Config.{allowance_below, within_at}
+use Rattle.rules.proofs.allowances_fit.Given as goal
+
+abbrev pub invariant-loop-i : goal.invariant-loop-i
+invariant-loop-i l = (l.i ≤ 8) × (every l.i (λ (k : ℕ). allowance_below l.n l.allowances k && within_at l.t l.allowances l.limits k) ≡ true)
+
+abbrev pub decreases-loop-i : goal.decreases-loop-i
+decreases-loop-i l = 8 - l.i

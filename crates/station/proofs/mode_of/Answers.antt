@@ -1,0 +1,11 @@
+use borrow.Author.Tests.{ne_eqb}
+use Rattle.station.proofs.mode_of.Goals as goal
+
+pub returns-in-1 : goal.returns-in-1
+returns-in-1 c = rw c.in-1.keys1
+
+pub returns-in-2 : goal.returns-in-2
+returns-in-2 c = rw c.in-2.keys2
+
+pub returns-in_default : goal.returns-in_default
+returns-in_default c = rw (ne_eqb _ 1 c.in_default.rest.0.1, ne_eqb _ 2 c.in_default.rest.1)
