@@ -1,4 +1,3 @@
-pub mod Walk
 pub mod SeenLaws
 pub mod SlotLaws
 pub mod TurnLaws

@@ -1,6 +1,6 @@
 -- The rules on a record and two slots. Assumes nothing.
 use Prim.Native.Nat.{ℕ}
-use mathlib.Core.Path.{◌≡◌, refl, ap, ◌∙◌}
+use mathlib.Core.Path.{◌≡◌, refl, ap, subst, sym, ◌∙◌}
 use mathlib.Core.List.{List, []}
 use mathlib.Core.Bool.{Bool, true, false, cond}
 use lib.ListN.{get_or}
@@ -146,5 +146,5 @@ pub promised : (r : Turned) (m : List (List ℕ)) (i : ℕ) (t : Slots) (g : Con
     → ((c : Config) → c.limits ≡ m → turned_view r ≡ g c) × (control_fits r.first ≡ true) × (control_fits r.second ≡ true)
 promised r m i t g h is all =
     let w : Config = record { n = 0; t = 0; allowances = []; limits = m } in
-    let f : SlotsFit (slots_view r) = rw (all w i refl) (all_fits w i t h) in
+    let f : SlotsFit (slots_view r) = subst SlotsFit (sym (all w i refl)) (all_fits w i t h) in
     (λ (c : Config) (e : c.limits ≡ m). ap slot_items (all c i (ap (λ (l : List (List ℕ)). get_or l i []) e)) ∙ is c, f.0, f.1)

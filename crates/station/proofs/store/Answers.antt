@@ -8,12 +8,6 @@ use Rattle.station.specs.Image.{sent_of, marks_of, image_station}
 use Rattle.station.specs.View.{station_view}
 use Rattle.station.proofs.Laws.{sent-length, marks-length, image-length}
 use Rattle.station.proofs.store.Goals as goal
-use Rattle.station.proofs.store.Goals.{After-slice_known-7-1}
-
-pub shape_of-part : goal.shape_of-part
-shape_of-part c =
-    let n : length c.args.part.now ≡ 47 = c.requires in
-    ap length (returns (goal.at.shape_of-part c).After-slice_known-7-1) ∙ image-length (station_view c.args.s) ∙ sym n
 
 pub returns : goal.returns
 unfolding image_station
@@ -28,3 +22,8 @@ returns c =
     let w6 = next (bytes_of 2 x.own) c.put16.new.d 2 w5 (omega arith) refl c.put16.ensures in
     let w7 = next_byte c.mode_byte-mode.result w6 (omega arith) in
     rw c.mode_byte-mode.ensures (rw c.mode_byte-mode.ensures at (written w7 n))
+
+pub shape_of-part : goal.shape_of-part
+shape_of-part c =
+    let n : length c.args.part.now ≡ 47 = c.requires in
+    ap length (returns c) ∙ image-length (station_view c.args.s) ∙ sym n

@@ -1,0 +1,60 @@
+use Prim.Native.Nat.{◌+◌, ◌*◌, ◌-◌, ◌<◌}
+use mathlib.Core.Path.{◌≡◌, ◌∙◌, sym}
+use mathlib.Core.Logic.{⊎_elim}
+use native.Mathlib.Omega.{arith}
+use borrow.Author.Tests.{not-false}
+use lib.ListN.{get_or}
+use Rattle.rules.specs.Setup.{block_config}
+use Rattle.link.proofs.Laws.{places_most}
+use Rattle.area.proofs.Runs.{read_none, idle_turn, busy_turn, stop_turn, runs_end}
+use Rattle.area.proofs.links_fit.Goals as goal
+use Rattle.area.proofs.links_fit.Goals.{then-b-ne0+else-not-link_fits, else-b-ne0}
+
+pub link_fits-requires : goal.link_fits-requires
+link_fits-requires c =
+    let l = c.loop-k in
+    (omega arith, omega arith, c.requires.2, omega arith, l.invariant.1.0)
+
+pub returns-then-not-link_fits : goal.returns-then-not-link_fits
+returns-then-not-link_fits c =
+    let g = c.args in
+    let w = rw c.get16-t.ensures at (sym c.link_fits.ensures ∙ c.if-not-link_fits.true) in
+    sym (stop_turn (block_config g.head.now) g.a.now (omega arith) c.loop-k.k c.loop-k.from (omega arith) c.loop-k.invariant.1 w)
+
+pub loop-k-preserved : goal.loop-k-preserved
+loop-k-preserved c =
+    let d = block_config c.args.head.now in
+    let a = c.args.a.now in (
+      omega arith,
+      elim c.if-b-ne0.branch [
+        | then-b-ne0+else-not-link_fits w ↦
+            rw w.from-is
+            (busy_turn d a (omega arith) c.loop-k.k c.loop-k.from (omega arith) c.loop-k.invariant.1 (places_most d c.requires.2 _ _)
+            (rw c.get16-t.ensures at (sym w.link_fits.ensures ∙ w.if-not-link_fits.false)))
+        | else-b-ne0 w ↦ rw w.from-is (idle_turn d a (omega arith) c.loop-k.k c.loop-k.from (omega arith) c.loop-k.invariant.1 w.if-b-ne0.false)
+      ],
+    )
+
+pub blank_between-requires : goal.blank_between-requires
+blank_between-requires c = (let h = c.loop-k.invariant.1.0 in omega arith, omega arith)
+
+pub returns : goal.returns
+returns c =
+    let g = c.args in
+    let e : c.loop-k.k ≡ 64 = omega arith in
+    c.blank_between.ensures ∙ sym (runs_end (block_config g.head.now) g.a.now (omega arith) c.loop-k.from (rw e at c.loop-k.invariant.1))
+
+pub loop-k-init : goal.loop-k-init
+loop-k-init c = (omega arith, read_none _ _)
+
+pub overflow_cast-from : goal.overflow_cast-from
+overflow_cast-from c = omega (arith, c.type_inv.a (888 + c.loop-k.k * 715))
+
+pub overflow_mul-from : goal.overflow_mul-from
+overflow_mul-from c = omega (arith, c.type_inv.a (888 + c.loop-k.k * 715))
+
+pub overflow_add-from : goal.overflow_add-from
+overflow_add-from c = omega (arith, c.type_inv.a (888 + c.loop-k.k * 715))
+
+pub overflow_add-from-then-b-ne0+else-not-link_fits : goal.overflow_add-from-then-b-ne0+else-not-link_fits
+overflow_add-from-then-b-ne0+else-not-link_fits c = omega (arith, c.type_inv.a (888 + c.loop-k.k * 715))
