@@ -56,5 +56,5 @@ overflow_mul-from c = omega (arith, c.type_inv.a (888 + c.loop-k.k * 715))
 pub overflow_add-from : goal.overflow_add-from
 overflow_add-from c = omega (arith, c.type_inv.a (888 + c.loop-k.k * 715))
 
-pub overflow_add-from-then-b-ne0+else-not-link_fits : goal.overflow_add-from-then-b-ne0+else-not-link_fits
-overflow_add-from-then-b-ne0+else-not-link_fits c = omega (arith, c.type_inv.a (888 + c.loop-k.k * 715))
+pub overflow_add-from-then-b-ne0 : goal.overflow_add-from-then-b-ne0
+overflow_add-from-then-b-ne0 c = omega (arith, c.type_inv.a (888 + c.loop-k.k * 715))
