@@ -90,7 +90,7 @@ module _ {n : ℕ} {station phase : ℕ → ℕ} {vc : ℕ → ℕ → ℕ} {Edg
       → (y : ℕ) × (phase y ≡ f) × ((j : ℕ) → v j ≡ vc y j) × AtOrAfter Edge x y
   last_after {s} L x xl e p =
       let g = L.greatest x xl e p in
-      let (y, yl, t, q, w) = L.of_one s (omega (arith, rw e at (C.some x xl))) in
+      let (y, yl, t, q, w) = L.of_one_lem s (omega (arith, rw e at (C.some x xl))) in
       (y, q, w, back C x y xl yl (p ∙ sym q) (rw e (omega (arith, w s))))
 
   -- The stations reached before the phase behind a's own: those whose last counts in a's phase have, for a's station, at least a's own count.
@@ -101,7 +101,7 @@ module _ {n : ℕ} {station phase : ℕ → ℕ} {vc : ℕ → ℕ → ℕ} {Edg
         let (y, q, w, u) = last_after L R.y R.inside R.stationed p in
         omega (arith, w (station a), at_grow (at_at R.after u) (sym q) (station a)),
     λ h.
-        let (y, yl, t, q, w) = L.of_one (station a) (omega (arith, C.some a al)) in
+        let (y, yl, t, q, w) = L.of_one_lem (station a) (omega (arith, C.some a al)) in
         record { y = y; inside = yl; stationed = t; lower = omega arith; after = back C a y al yl (sym q) (omega (arith, w (station a))) },
   )
 
@@ -116,6 +116,6 @@ module _ {n : ℕ} {station phase : ℕ → ℕ} {vc : ℕ → ℕ → ℕ} {Edg
         (λ d. let (k, S, c) = across d (omega arith) in inr (k, still_reached (omega arith) S, omega (arith, w k)))
         (at_at R.after u)),
     ⊎_elim (still_reached (omega arith)) (λ (k, R, h).
-        let (y, yl, t, q, w) = L.of_one k h in
+        let (y, yl, t, q, w) = L.of_one_lem k h in
         record { y = y; inside = yl; stationed = t; lower = omega arith; after = inr (counted (suc y) a y f k (omega arith) yl q R (omega (arith, w k))) }),
   )

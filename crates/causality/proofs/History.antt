@@ -1,6 +1,6 @@
 -- Every list of steps from the initial network makes a trace: what the state says of the entries so far is kept by every step. Assumes nothing.
 use Prim.Native.Nat.{ℕ, zero, suc, ◌+◌, ◌≤◌, ◌<◌}
-use mathlib.Core.Path.{◌≡◌, refl, sym, ap, ◌∙◌}
+use mathlib.Core.Path.{◌≡◌, refl, sym, ap, subst, ◌∙◌}
 use mathlib.Core.List.{List, [], ◌∷◌, ◌++◌, append-nil, map, map-append}
 use mathlib.Core.Bool.{true, false, ◌&&◌, and-false}
 use native.Mathlib.Omega.{arith}
@@ -172,7 +172,8 @@ module _ (c : Config) (E : List Accepted) (T : List (List Message)) (s s' : Stat
         by_test (eqb j a && eqb i b)
         (λ t. let k = both (eqb j a) _ t in
         let (x, xl, sx, nx, tx, rest) = origin i j e w in
-        rw (← eqb-true j a k.0, ← eqb-true i b k.1) rest)
+        subst (λ (y : ℕ). map tag_of (under_way E y b (suc m)) ≡ waiting s' y b) (eqb-true j a k.0)
+        (subst (λ (y : ℕ). map tag_of (under_way E j y (suc m)) ≡ waiting s' j y) (eqb-true i b k.1) rest))
         (λ t. unmoved a b n (rw e) (rw (e, t)) (rw e) (rw (e, t)))
     new_links (start i) e w a b n = absurd w
 
@@ -194,7 +195,8 @@ module _ (c : Config) (E : List Accepted) (T : List (List Message)) (s s' : Stat
         by_dec (ℕ_discrete (record_station E m) k)
         (λ e. let p : phase_of E m ≡ (station_at s' k).phase = rw (← e) (en.phase_is ∙ sym en.phase_same) in
         rw (eq-eqb (phase_of E m) (station_at s' k).phase p, eq-eqb (record_station E m) k e) (rw (← e) (sym en.counts-are)))
-        (λ e. rw (en.others k (λ q. e (sym q)), ne_eqb (record_station E m) k e, and-false (eqb (phase_of E m) (station_at s k).phase)) (h.times k l))
+        (λ e. subst (λ (x : Station vector). x.time ≡ last_of E k x.phase (suc m)) (sym (en.others k (λ q. e (sym q))))
+        (rw (ne_eqb (record_station E m) k e, and-false (eqb (phase_of E m) (station_at s k).phase)) (h.times k l)))
 
     same_phase : (k : ℕ) → (station_at s' k).phase ≡ (station_at s k).phase
     same_phase k = by_dec (ℕ_discrete k (record_station E m)) (λ e. rw e en.phase_same) (λ e. rw (en.others k e))

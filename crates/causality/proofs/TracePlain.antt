@@ -98,7 +98,8 @@ module _ (E : List Accepted) (T : List (List Message)) (R : Trace E T) (f : ℕ)
           record {
             counts = counted;
             queues = λ a b. by_test (eqb j a && eqb i b)
-                (λ c. let k = both (eqb j a) _ c in rw (c, eqb-true j a k.0, eqb-true i b k.1))
+                (λ c. let k = both (eqb j a) _ c in
+                rw c (ap (λ (y : ℕ). messages_of f (under_way E y i (suc m))) (eqb-true j a k.0) ∙ ap (λ (y : ℕ). messages_of f (under_way E a y (suc m))) (eqb-true i b k.1)))
                 (λ c. rw c (h.queues a b ∙ sym (ap (messages_of f) (stays-under_way E a b m (rw e) (rw (e, c))))));
           },
         )
