@@ -11,32 +11,22 @@ use Rattle.link.specs.Image.{item_of}
 use Rattle.reset_rules.proofs.TurnLaws.{set_link-set}
 use Rattle.area.specs.Layout.{image}
 use Rattle.step_parts.specs.Answers.{stepped_of}
-use borrow.Author.Rules.{rules}
-use Rattle.enter_send.proofs.send_message.Statement.{statement}
-use Rattle.enter_send.proofs.send_message.Tie as tie
+use Rattle.enter_send.proofs.send_message.Goals as goal
 
-returns : tie.Need-returns
+pub returns : goal.returns
 unfolding item_of
 returns c =
-    let o = c.before.before.before.before.before.before.before in
-    let p = o.before.before.before in
-    let g = p.before.before.args in
+    let g = c.args in
     let i : ℕ = g.i in
     let j : ℕ = g.j in
     let x : NetworkStation vector = sending i j (station_view g.s) in
     let m : NetworkItem vector = message (tick i g.s.counts) g.register in
-    let z : station_view p.sending.result ≡ x = p.sending.ensures in
+    let z : station_view c.sending-x.result ≡ x = c.sending-x.ensures in
     record {
       answer = c.entry.ensures ∙ ap (λ (q : NetworkStation vector). stepped_of (entry (entry_of 2 i j g.register q 0))) z;
       area = λ d s e.
-          c.before.before.before.put-station.ensures d _ (o.push_at.ensures d s e)
+          c.put_station.ensures d _ (c.push_at.ensures d s e)
           ∙ ap (λ (q : NetworkStation vector). image d (set_station (put_on s i j (message q.time g.register)) i q)) z
           ∙ ap (image d) (sym (set_link-set s i j i (link_at s i j ++ (m ∷ [])) x))
           ∙ ap (λ (l : List (NetworkItem vector)). image d (set_link (set_station s i x) i j (l ++ (m ∷ [])))) (sym (link_set-station s i x i j));
     }
-
-pub send_message_spec : {M : Type 1} → statement M
-send_message_spec =
-    tie.close
-    (tie.spec (λ c κs. search rules) (λ c κs. search rules) (λ c κs. search rules) (λ c. search rules)
-    (λ c. search rules) (λ c κs. search rules) (λ c. search rules) returns)
