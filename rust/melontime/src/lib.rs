@@ -65,9 +65,9 @@
 //! # Ok::<(), Refusal>(())
 //! ```
 //!
-//! The library is linked as `libmelontime.a` from the folder `target/staticlib` of
-//! the repository, or from the one that the environment variable
-//! `MELONTIME_LIB` names.
+//! The library is linked as `libmelontime.a` from the folder
+//! `crates/melontime/out` of the repository, or from the one that the environment
+//! variable `MELONTIME_LIB` names.
 
 #![deny(unsafe_code)]
 #![warn(missing_docs)]
