@@ -1,7 +1,7 @@
 /* The worked listing of document 01 from C: its steps, the archive of its
-   entries, what the archive answers, the order of events across the reset, one
-   pair at a time and in sheets, the order of a list, a network that is laid up, and
-   every refusal. What it prints is held to listing.out. */
+   entries, what the archive answers, the order of events across the reset, the
+   order of a list, a network that is laid up, and every refusal. What it prints is
+   held to listing.out. */
 #include <inttypes.h>
 #include <stdio.h>
 #include <stdlib.h>
@@ -164,60 +164,6 @@ static void try_archive_verdicts(void) {
     }
 }
 
-enum { MAX_PAIRS = MELONTIME_MAX_NUMBERS / 2 };
-
-/* A sheet is answered: each pair has the verdict that it has alone. */
-static void print_sheet(const uint8_t *blocks, size_t length, const uint64_t *numbers, size_t pairs) {
-    uint8_t answers[MAX_PAIRS + 1] = {0};
-    uint64_t answer = melontime_sheet(blocks, length, numbers, 2 * pairs, answers, sizeof answers);
-    must(answer >= MELONTIME_TOLD, "the sheet is answered");
-    printf("sheet:");
-    for (size_t k = 0; k < pairs; k++) {
-        uint64_t first = numbers[2 * k], second = numbers[2 * k + 1];
-        must(answers[k] == melontime_archive_verdict(blocks, length, first, second), "the pair alone has it too");
-        printf("%s %" PRIu64 " and %" PRIu64, k == 0 ? "" : ",", first, second);
-        print_verdict(answers[k]);
-    }
-    must(answers[pairs] == 0, "the places behind the pairs are left");
-    printf("; blocks fetched %" PRIu64 "\n", MELONTIME_COUNT(answer));
-}
-
-/* Pairs of the listing, across the reset too. */
-static void try_sheet(void) {
-    static const uint64_t numbers[] = {0, 3, 3, 0, 2, 2, 4, 5, 1, 4, 5, 1};
-    print_sheet(archive, sizeof archive, numbers, sizeof numbers / sizeof numbers[0] / 2);
-    must(melontime_sheet(archive, sizeof archive, numbers, 0, area, 0) == MELONTIME_TOLD, "no pairs, no blocks");
-}
-
-/* A station alone fills a block, resets and makes two entries more, which are in the
-   next: the records that are named are in one block, in the other, and in both. */
-static void try_sheet_over_blocks(void) {
-    static const uint64_t numbers[] = {0, 14, 14, 0, 16, 15, 15, 0, 14, 16};
-    uint8_t allowances[MELONTIME_ALLOWANCES] = {MELONTIME_MAX_RECORDS};
-    uint8_t limits[MELONTIME_LIMITS] = {0};
-    uint8_t blocks[3 * MELONTIME_BLOCK], events[(MELONTIME_MAX_RECORDS + 2) * MELONTIME_RECORD];
-    uint64_t answer;
-    answer = melontime_write_header(1, MELONTIME_MAX_RECORDS, allowances, sizeof allowances, limits, sizeof limits,
-                                    blocks, MELONTIME_BLOCK);
-    must(answer == MELONTIME_DONE, "the header is written");
-    must(melontime_setup(blocks, MELONTIME_BLOCK, area, sizeof area) == MELONTIME_DONE, "setup is accepted");
-    for (uint32_t k = 0; k < MELONTIME_MAX_RECORDS + 2; k++) {
-        uint8_t *event = events + MELONTIME_RECORD * k;
-        if (k == MELONTIME_MAX_RECORDS)
-            must(take((struct step){START, 0, 0, 0}, event) >= MELONTIME_TOLD, "the start is accepted");
-        must(take((struct step){ENTER, 0, 0, k}, event) == MELONTIME_ENTRY, "the entry is accepted");
-    }
-    answer = melontime_write_entries(1, events, MELONTIME_MAX_RECORDS * MELONTIME_RECORD,
-                                     blocks + MELONTIME_BLOCK, MELONTIME_BLOCK);
-    must(answer == MELONTIME_DONE, "the first entries are written");
-    answer = melontime_write_entries(2, events + MELONTIME_MAX_RECORDS * MELONTIME_RECORD, 2 * MELONTIME_RECORD,
-                                     blocks + 2 * MELONTIME_BLOCK, MELONTIME_BLOCK);
-    must(answer == MELONTIME_DONE, "the last entries are written");
-    print_sheet(blocks, sizeof blocks, numbers, 2);
-    print_sheet(blocks, sizeof blocks, numbers + 4, 1);
-    print_sheet(blocks, sizeof blocks, numbers, 5);
-}
-
 /* Two stations make an entry each, reset, and make one each; nothing is sent. Then
    only a station's own course tells an order across the reset. */
 static void try_quiet_reset(void) {
@@ -358,32 +304,8 @@ static void try_news(void) {
     must(!MELONTIME_IS_ENTRY(take((struct step){START, 1, 0, 0}, event)), "a refusal is no entry");
 }
 
-/* A sheet that is refused and leaves the answers. The archive is two blocks. */
-static void refused_sheet(const char *what, const uint8_t *blocks, const uint64_t *numbers, size_t length,
-                          size_t places, uint64_t expected) {
-    uint8_t answers[MAX_PAIRS] = {0}, blank[MAX_PAIRS] = {0};
-    refused(what, melontime_sheet(blocks, 2 * MELONTIME_BLOCK, numbers, length, answers, places), expected);
-    must(memcmp(answers, blank, sizeof answers) == 0, "the answers are left");
-}
-
-static void try_refused_sheets(void) {
-    uint64_t numbers[MELONTIME_MAX_NUMBERS + 1] = {0, 3, 4, 5};
-    uint8_t answers[MAX_PAIRS];
-    uint64_t answer;
-    answer = melontime_sheet(archive, sizeof archive, numbers, MELONTIME_MAX_NUMBERS, answers, MAX_PAIRS);
-    must(answer == MELONTIME_TOLD + 1, "64 pairs are a sheet");
-    refused_sheet("a sheet of 129 numbers", archive, numbers, MELONTIME_MAX_NUMBERS + 1, MAX_PAIRS,
-                  MELONTIME_REFUSED_SHEET_TOO_LONG);
-    refused_sheet("a sheet of half a pair", archive, numbers, 3, MAX_PAIRS, MELONTIME_REFUSED_NO_SUCH_RECORD);
-    refused_sheet("a sheet of two pairs in one place", archive, numbers, 4, 1, MELONTIME_REFUSED_AREA_LENGTH);
-    numbers[3] = count;
-    refused_sheet("a sheet with a record behind the last", archive, numbers, 4, 1,
-                  MELONTIME_REFUSED_NO_SUCH_RECORD);
-}
-
 /* An archive that lacks the first entry, which counts 1 for its station. */
 static void try_ill_kept(void) {
-    static const uint64_t numbers[] = {1, 2};
     uint8_t blocks[2 * MELONTIME_BLOCK];
     uint64_t answer;
     memcpy(blocks, archive, MELONTIME_BLOCK);
@@ -392,13 +314,12 @@ static void try_ill_kept(void) {
     must(answer == MELONTIME_DONE, "the entries are written");
     refused("a verdict where the first entry is missing", melontime_archive_verdict(blocks, sizeof blocks, 1, 2),
             MELONTIME_REFUSED_ILL_KEPT);
-    refused_sheet("a sheet where the first entry is missing", blocks, numbers, 2, 0, MELONTIME_REFUSED_ILL_KEPT);
 }
 
 static void try_refusals(void) {
     uint8_t block[MELONTIME_BLOCK], event[MELONTIME_RECORD];
     uint8_t *station_0 = area + 512;
-    uint64_t one_place[1] = {0};
+    uint64_t one_place[1];
 
     must(write_header(6, block, sizeof block) == MELONTIME_DONE, "the header is written");
     refused("setup with the ceiling 6", melontime_setup(block, sizeof block, area, sizeof area),
@@ -452,13 +373,10 @@ static void try_refusals(void) {
             MELONTIME_REFUSED_NO_SUCH_RECORD);
     refused("a block of number 0", melontime_write_entries(0, records, MELONTIME_RECORD, block, sizeof block),
             MELONTIME_REFUSED_MALFORMED);
-    try_refused_sheets();
     try_ill_kept();
     archive[MELONTIME_BLOCK + 100] ^= 1;
     refused("an archive with a changed bit", melontime_archive_records(archive, sizeof archive),
             MELONTIME_REFUSED_MALFORMED);
-    refused_sheet("a sheet over an archive with a changed bit", archive, one_place, 1, 0,
-                  MELONTIME_REFUSED_MALFORMED);
 }
 
 int main(void) {
@@ -471,8 +389,6 @@ int main(void) {
     write_archive();
     read_archive();
     try_archive_verdicts();
-    try_sheet();
-    try_sheet_over_blocks();
     try_quiet_reset();
     try_list_order();
     try_rest();

@@ -30,8 +30,7 @@ enum {
     MELONTIME_LIMITS = 64,     /* eight rows of eight limits */
     MELONTIME_FIELDS = 83,     /* n, t in two bytes, allowances, limits */
     MELONTIME_MAX_STATIONS = 8,
-    MELONTIME_MAX_RECORDS = 15, /* of an entries block */
-    MELONTIME_MAX_NUMBERS = 128 /* of a sheet, which is 64 pairs */
+    MELONTIME_MAX_RECORDS = 15 /* of an entries block */
 };
 
 /* Refusals: the same numbers for all calls.
@@ -52,9 +51,8 @@ enum {
     MELONTIME_REFUSED_LAST_PHASE = 8,        /* start in phase 999,999 */
     MELONTIME_REFUSED_DIFFERENT_PHASES = 10, /* a verdict on records of different phases */
     MELONTIME_REFUSED_AREA_LENGTH = 11,      /* a buffer or list too small, or not as long as asked */
-    MELONTIME_REFUSED_NO_SUCH_RECORD = 12,   /* no such record; half a pair; 0 or over 15 records to write */
-    MELONTIME_REFUSED_ILL_KEPT = 13,         /* own counts in a phase that are not 1, 2, 3 .., each once */
-    MELONTIME_REFUSED_SHEET_TOO_LONG = 14    /* a sheet of over 128 numbers */
+    MELONTIME_REFUSED_NO_SUCH_RECORD = 12,   /* no record of this number; 0 or over 15 records to write */
+    MELONTIME_REFUSED_ILL_KEPT = 13          /* own counts in a phase that are not 1, 2, 3 .., each once */
 };
 
 /* Answers that are no refusal. */
@@ -66,7 +64,6 @@ enum {
     MELONTIME_REST_YES = 100,
     MELONTIME_REST_NO = 101,
 
-    /* Of verdict and archive_verdict, and in the places of a sheet. */
     MELONTIME_VERDICT_BEFORE = 100,
     MELONTIME_VERDICT_AFTER = 101,
     MELONTIME_VERDICT_SAME = 102,
@@ -97,8 +94,8 @@ enum { MELONTIME_NORMAL = 0, MELONTIME_MUTE = 1, MELONTIME_STAND_BY = 2 };
 #define MELONTIME_BLOCK_NUMBER(answer) (((answer)-MELONTIME_TOLD) / 16)
 #define MELONTIME_BLOCK_RECORDS(answer) (((answer)-MELONTIME_TOLD) % 16)
 
-/* How many archive_records counts, how many unordered lists, how many receipts
-   receipts_to_rest tells, and how many blocks sheet has fetched. */
+/* How many archive_records counts, how many unordered lists, and how many
+   receipts receipts_to_rest tells. */
 #define MELONTIME_COUNT(answer) ((answer)-MELONTIME_TOLD)
 
 /* Makes an area of MELONTIME_AREA bytes the initial network of a header block. */
@@ -178,16 +175,6 @@ uint64_t melontime_unordered(const uint8_t *archive, size_t archive_length, uint
    each station's own course lead from one to the other, across resets too. */
 uint64_t melontime_archive_verdict(const uint8_t *archive, size_t archive_length, uint64_t first,
                                    uint64_t second);
-
-/* The orders of up to 64 pairs of events, each as archive_verdict has it, in one
-   call. The numbers of the records are lent in pairs, at most
-   MELONTIME_MAX_NUMBERS: pair i is numbers 2i and 2i + 1, and its verdict goes to
-   place i of the answers, a byte. The number told is that of the blocks fetched to
-   collect the named records: each block that holds some of them, once. A sheet
-   that is too long is refused before all else, and one that names a record which
-   is not there, or ends with half a pair, is refused as a whole. */
-uint64_t melontime_sheet(const uint8_t *archive, size_t archive_length, const uint64_t *numbers,
-                         size_t numbers_length, uint8_t *answers, size_t answers_length);
 
 #ifdef __cplusplus
 }

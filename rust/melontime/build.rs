@@ -1,4 +1,4 @@
-//! Links the static library that `rt staticlib melontime` writes.
+//! Links the static library that `rt lib` makes in the folder `crates/melontime`.
 
 use std::env;
 use std::path::PathBuf;
@@ -9,15 +9,15 @@ fn main() {
         Some(folder) => PathBuf::from(folder),
         None => {
             let here = env::var_os("CARGO_MANIFEST_DIR").expect("cargo names this folder");
-            PathBuf::from(here).join("../../target/staticlib")
+            PathBuf::from(here).join("../../crates/melontime/out")
         }
     };
     let library = folder.join("libmelontime.a");
     println!("cargo::rerun-if-changed={}", library.display());
     if !library.exists() {
         println!(
-            "cargo::error={} is not there: run `rt staticlib melontime` in the root of the repository, \
-             or name its folder in MELONTIME_LIB",
+            "cargo::error={} is not there: run `rt lib` in the folder crates/melontime of the \
+             repository, or name its folder in MELONTIME_LIB",
             library.display()
         );
     }

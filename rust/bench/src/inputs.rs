@@ -332,26 +332,6 @@ pub fn pair_of_phases(count: usize, phases: usize, shuffled: bool) -> Pair {
     }
 }
 
-/// Pairs of a sheet.
-pub const PAIRS: usize = 64;
-
-/// An archive and the numbers of a sheet on it, two for each pair.
-pub struct Sheet {
-    pub bytes: Vec<u8>,
-    pub numbers: [u64; 2 * PAIRS],
-}
-
-/// An archive of so many records in so many phases, in list order, and any pairs of
-/// them, most of which are of two phases and, where there are many records, each of
-/// two blocks that no other has.
-pub fn sheet_of_phases(count: usize, phases: usize) -> Sheet {
-    let mut rng = Rng::new(7);
-    Sheet {
-        bytes: archive_with(&phased_records(count, phases)),
-        numbers: std::array::from_fn(|_| rng.below(count as u64)),
-    }
-}
-
 /// Bytes that differ from an archive in their last block only, where a count of
 /// the last record is above t: they are refused once all of them are read.
 pub fn hostile_archive(count: usize) -> Vec<u8> {

@@ -19,15 +19,13 @@ mod programs;
 use std::hint::black_box;
 
 use comparison::{counted, judged, library_step};
-use inputs::PAIRS;
 use melontime::raw;
-use reference::in_place::sheet as placed_sheet;
 use reference::in_place::{self, archives as placed, between_phases as placed_phases};
 use reference::network::{Step, AREA};
 use reference::order::Verdict;
-use reference::{archive, area, between_phases, order, sheet};
+use reference::{archive, area, between_phases, order};
 
-use measure::{print_head, print_row, sides, sides_in, FEW_ROUNDS, ROUNDS};
+use measure::{print_head, print_row, sides};
 
 /// Prints a row with its name.
 type Row = fn(&str);
@@ -296,75 +294,6 @@ fn across_phases_row(what: &str, count: usize, pair: &inputs::Pair) {
     print_row(what, count as f64, library, others);
 }
 
-/// A row of a sheet of pairs, as a whole.
-fn sheet_row(what: &str, input: &inputs::Sheet) {
-    let (bytes, numbers) = (&input.bytes[..], &input.numbers[..]);
-    let (mut ours, mut theirs, mut list) = ([0; PAIRS], [0; PAIRS], [0; PAIRS]);
-    let expected = sheet::verdicts(bytes, numbers, &mut theirs);
-    let blocks = expected.expect("verdicts");
-    assert_eq!(raw::sheet(bytes, numbers, &mut ours), 1000 + blocks);
-    let answer = placed_sheet::verdicts(bytes, numbers, &mut list);
-    assert_eq!(answer, expected);
-    assert!(ours == theirs && ours == list);
-    let [library, rust, place, plain] = sides([
-        &mut || {
-            black_box(raw::sheet(black_box(bytes), numbers, &mut ours));
-        },
-        &mut || {
-            let _ = black_box(sheet::verdicts(black_box(bytes), numbers, &mut theirs));
-        },
-        &mut || {
-            let _ = black_box(placed_sheet::verdicts(black_box(bytes), numbers, &mut list));
-        },
-        &mut || {
-            black_box(read(black_box(bytes)));
-        },
-    ]);
-    print_row(what, 1.0, library, [Some(rust), Some(place), Some(plain)]);
-}
-
-/// A row of the same pairs, a call for each: all calls together. Each has a plain
-/// read of its own.
-fn singly_row(what: &str, input: &inputs::Sheet, rounds: usize) {
-    let bytes = &input.bytes[..];
-    let (pairs, _) = input.numbers.as_chunks::<2>();
-    for &[first, second] in pairs {
-        let (a, b) = (first as usize, second as usize);
-        let expected = between_phases::verdict(bytes, a, b);
-        assert!(expected.is_ok());
-        let answer = raw::archive_verdict(bytes, first, second);
-        assert_eq!(answer, judged(expected));
-        assert_eq!(placed_phases::verdict(bytes, a, b), expected);
-    }
-    let numbers = || pairs.iter().map(|&[a, b]| (a as usize, b as usize));
-    let [library, rust, place, plain] = sides_in(
-        rounds,
-        [
-            &mut || {
-                for &[first, second] in pairs {
-                    black_box(raw::archive_verdict(black_box(bytes), first, second));
-                }
-            },
-            &mut || {
-                for (a, b) in numbers() {
-                    let _ = black_box(between_phases::verdict(black_box(bytes), a, b));
-                }
-            },
-            &mut || {
-                for (a, b) in numbers() {
-                    let _ = black_box(placed_phases::verdict(black_box(bytes), a, b));
-                }
-            },
-            &mut || {
-                for _ in pairs {
-                    black_box(read(black_box(bytes)));
-                }
-            },
-        ],
-    );
-    print_row(what, 1.0, library, [Some(rust), Some(place), Some(plain)]);
-}
-
 fn steps_rows(is_wanted: impl Fn(&str) -> bool) {
     let (idle, busy) = (inputs::idle_area(), inputs::busy_area());
     let lists = [
@@ -514,37 +443,6 @@ fn across_phases_rows(is_wanted: impl Fn(&str) -> bool) {
     }
 }
 
-/// A sheet and, beside it, the same pairs singly.
-fn sheet_rows(is_wanted: impl Fn(&str) -> bool) {
-    let rows = [
-        (
-            "sheet of 64 pairs across 100 phases, 10,000 records",
-            "64 pairs singly across 100 phases, 10,000 records",
-            10_000,
-            ROUNDS,
-        ),
-        (
-            "sheet of 64 pairs across 100 phases, 1,000,000 records",
-            "64 pairs singly across 100 phases, 1,000,000 records",
-            1_000_000,
-            FEW_ROUNDS,
-        ),
-    ];
-    for (whole, singly, count, rounds) in rows {
-        let wanted = [whole, singly].map(&is_wanted);
-        if !wanted.contains(&true) {
-            continue;
-        }
-        let input = inputs::sheet_of_phases(count, 100);
-        if wanted[0] {
-            sheet_row(whole, &input);
-        }
-        if wanted[1] {
-            singly_row(singly, &input, rounds);
-        }
-    }
-}
-
 fn main() -> std::io::Result<()> {
     if programs::is_reference() {
         return programs::run_reference();
@@ -568,6 +466,5 @@ fn main() -> std::io::Result<()> {
     archive_rows(is_wanted);
     unordered_rows(is_wanted);
     across_phases_rows(is_wanted);
-    sheet_rows(is_wanted);
     programs::turnover_rows(&wanted)
 }

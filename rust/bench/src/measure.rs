@@ -3,10 +3,7 @@
 use std::time::Instant;
 
 /// Rounds of each row; the median of a side's rounds is its time.
-pub const ROUNDS: usize = 31;
-
-/// Rounds of a row that takes seconds for a call.
-pub const FEW_ROUNDS: usize = 5;
+const ROUNDS: usize = 31;
 
 /// A round lasts about this long for each side.
 const ROUND_NANOSECONDS: f64 = 8e6;
@@ -26,29 +23,20 @@ fn median(times: &mut [f64]) -> f64 {
 }
 
 /// How many calls a round has. The least of some tries counts, so that a
-/// disturbance does not make every round short; a call that is much longer than a
-/// round is one by itself.
+/// disturbance does not make every round short.
 fn calls_of(side: &mut dyn FnMut()) -> u32 {
     let once = time(1, side).max(1.0);
-    if once > 10.0 * ROUND_NANOSECONDS {
-        return 1;
-    }
     let calls = (1e6 / once) as u32 + 1;
     let once = (0..5).map(|_| time(calls, side)).fold(f64::MAX, f64::min);
     (ROUND_NANOSECONDS / once.max(1.0)) as u32 + 1
 }
 
-/// The median time of a call of each side, in nanoseconds.
-pub fn sides<const N: usize>(sides: [&mut dyn FnMut(); N]) -> [f64; N] {
-    sides_in(ROUNDS, sides)
-}
-
-/// The same in so many rounds. The sides take turns in every round, so that a
-/// change of the machine's pace meets all of them.
-pub fn sides_in<const N: usize>(rounds: usize, mut sides: [&mut dyn FnMut(); N]) -> [f64; N] {
+/// The median time of a call of each side, in nanoseconds. The sides take turns
+/// in every round, so that a change of the machine's pace meets all of them.
+pub fn sides<const N: usize>(mut sides: [&mut dyn FnMut(); N]) -> [f64; N] {
     let calls = sides.each_mut().map(|side| calls_of(side));
     let mut times: [Vec<f64>; N] = std::array::from_fn(|_| Vec::new());
-    for _ in 0..rounds {
+    for _ in 0..ROUNDS {
         for ((side, &calls), times) in sides.iter_mut().zip(&calls).zip(&mut times) {
             times.push(time(calls, side));
         }

@@ -70,7 +70,7 @@ fn row(what: &str, program: &Path, script: &[u8]) -> io::Result<()> {
 /// there.
 pub fn turnover_rows(wanted: &str) -> io::Result<()> {
     let root = PathBuf::from(env!("CARGO_MANIFEST_DIR")).join("../..");
-    let program = root.join("target/bin/turnover");
+    let program = root.join("crates/turnover/out/turnover");
     let scripts: [(&str, Script); 2] = [
         ("turnover, a lone station, per step", inputs::lone_script),
         (
@@ -84,7 +84,7 @@ pub fn turnover_rows(wanted: &str) -> io::Result<()> {
         }
     }
     if !program.exists() {
-        println!("\nNo row of turnover: target/bin/turnover is not there (`rt check turnover`).");
+        println!("\nNo row of turnover: crates/turnover/out/turnover is not there (`rt run`).");
     }
     Ok(())
 }

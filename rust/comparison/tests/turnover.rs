@@ -1,6 +1,6 @@
 //! The proved program `turnover` against the independent implementation, and
-//! both against the expected outputs in the folder `examples`. `rt check
-//! turnover` builds the program.
+//! both against the expected outputs in the folder `examples`. `rt run` in
+//! `crates/turnover` builds the program, and so does `rt ci`.
 
 use std::fs;
 use std::io::{Read, Write};
@@ -23,10 +23,10 @@ fn root() -> PathBuf {
 
 /// The proved program.
 fn program() -> PathBuf {
-    let path = root().join("target/bin/turnover");
+    let path = root().join("crates/turnover/out/turnover");
     assert!(
         path.exists(),
-        "target/bin/turnover is not there: run `rt check turnover` in the root of the repository"
+        "crates/turnover/out/turnover is not there: run `rt run < /dev/null` in crates/turnover"
     );
     path
 }

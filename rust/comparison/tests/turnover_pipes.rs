@@ -1,6 +1,6 @@
 //! The proved program `turnover` on inputs that come in parts, on files that
-//! are not ready, and where a read or a write fails. `rt check turnover`
-//! builds the program.
+//! are not ready, and where a read or a write fails. `rt run` in
+//! `crates/turnover` builds the program, and so does `rt ci`.
 
 use std::fs::{File, OpenOptions};
 use std::io::{self, PipeReader, PipeWriter, Read, Write};
@@ -27,10 +27,11 @@ const O_NONBLOCK: i32 = 0o4000;
 const SIGPIPE: i32 = 13;
 
 fn program() -> PathBuf {
-    let path = Path::new(env!("CARGO_MANIFEST_DIR")).join("../../target/bin/turnover");
+    let root = Path::new(env!("CARGO_MANIFEST_DIR")).join("../..");
+    let path = root.join("crates/turnover/out/turnover");
     assert!(
         path.exists(),
-        "target/bin/turnover is not there: run `rt check turnover` in the root of the repository"
+        "crates/turnover/out/turnover is not there: run `rt run < /dev/null` in crates/turnover"
     );
     path
 }

@@ -8,12 +8,11 @@
 //! the work of all is done the network is laid up: the host asks how many
 //! receipts that takes, and takes nothing but receipts until it is at rest. In
 //! the end the accepted records are written to an archive, which is read back,
-//! tested and asked for the order of any two of them, across resets too: of one
-//! pair after the other, and of many at once.
+//! tested and asked for the order of any two of them, across resets too.
 //!
 //!     cargo run --release --offline -p melontime --example register
 
-use std::collections::{BTreeMap, BTreeSet, HashMap};
+use std::collections::{BTreeMap, HashMap};
 use std::error::Error;
 use std::io::{self, Read, Write};
 use std::os::unix::net::UnixStream;
@@ -24,7 +23,7 @@ use std::{env, fs, process};
 
 use melontime::{
     archive_bytes, Archive, Header, InMode, Kind, Mode, Outcome, Reached, Receipt, Record, Refusal,
-    SheetRefusal, StepRefusal, Verdict, WellKept, MAX_PAIRS, MAX_RECORDS,
+    StepRefusal, Verdict, WellKept,
 };
 
 const STATIONS: u32 = 4;
@@ -548,28 +547,6 @@ fn check_verdicts(
     unordered
 }
 
-/// All pairs of records in full sheets: each place has the verdict on its pair
-/// alone, and the blocks fetched are those that hold the records. Answers how many
-/// sheets there were, and how many blocks were fetched for them.
-fn check_sheets(kept: &WellKept) -> Result<(usize, u64), SheetRefusal> {
-    let numbers = 0..kept.archive().len();
-    let pairs: Vec<(u64, u64)> = numbers
-        .clone()
-        .flat_map(|a| numbers.clone().map(move |b| (a, b)))
-        .collect();
-    let mut fetched = 0;
-    for pairs in pairs.chunks(MAX_PAIRS) {
-        let sheet = kept.sheet(pairs)?;
-        let alone = pairs.iter().filter_map(|&(a, b)| kept.verdict(a, b));
-        assert!(sheet.verdicts().iter().copied().eq(alone), "{pairs:?}");
-        let named = pairs.iter().flat_map(|&(a, b)| [a, b]);
-        let blocks: BTreeSet<u64> = named.map(|k| k / MAX_RECORDS as u64).collect();
-        assert_eq!(sheet.blocks(), blocks.len() as u64, "{pairs:?}");
-        fetched += sheet.blocks();
-    }
-    Ok((pairs.len().div_ceil(MAX_PAIRS), fetched))
-}
-
 fn main() -> Result<(), Box<dyn Error>> {
     let mut header = Header::new(STATIONS, ALLOWANCE + 4 * u16::from(LIMIT));
     for station in 0..STATIONS {
@@ -647,18 +624,10 @@ fn main() -> Result<(), Box<dyn Error>> {
     }
     println!("every verdict is that of the messages");
 
-    let (sheets, fetched) = check_sheets(&kept)?;
-    println!("{sheets} sheets of up to {MAX_PAIRS} pairs say the same, {fetched} blocks fetched");
-    let refused = kept.sheet(&[(0, number); MAX_PAIRS]);
-    assert_eq!(refused, Err(SheetRefusal::NoSuchRecord));
-    let refused = kept.sheet(&[(0, number); MAX_PAIRS + 1]);
-    assert_eq!(refused, Err(SheetRefusal::SheetTooLong));
-
     let twice = [&records[..], &records[..1]].concat();
     let bytes = archive_bytes(&header, &twice)?;
-    let archive = Archive::open(&bytes)?;
-    assert_eq!(archive.verdict(0, 1), Err(Refusal::IllKept));
-    assert_eq!(archive.sheet(&[(0, 1)]), Err(Refusal::IllKept));
+    let verdict = Archive::open(&bytes)?.verdict(0, 1);
+    assert_eq!(verdict, Err(Refusal::IllKept));
     println!("with a record twice it gives none");
     Ok(())
 }

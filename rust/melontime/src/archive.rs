@@ -1,11 +1,8 @@
 //! Whole archives.
 
-use std::fmt;
-
 use crate::record::judged;
 use crate::refusal::{done, refused};
-use crate::{raw, write_entries, Header, Record, Refusal, Verdict};
-use crate::{BLOCK, MAX_PAIRS, MAX_RECORDS, RECORD};
+use crate::{raw, write_entries, Header, Record, Refusal, Verdict, BLOCK, MAX_RECORDS, RECORD};
 
 /// The bytes of the archive of a header and records: the header block, then
 /// entries blocks of fifteen records, the last perhaps of fewer.
@@ -39,10 +36,9 @@ pub fn archive_bytes(header: &Header, records: &[Record]) -> Result<Vec<u8>, Ref
 /// An archive that has passed its test, on its bytes.
 ///
 /// Its records are numbered from 0. The library tests the whole archive again in
-/// [`found`](Archive::found), [`verdict`](Archive::verdict),
-/// [`sheet`](Archive::sheet) and [`unordered`](Archive::unordered), since it
-/// trusts no bytes that it is lent; [`records`](Archive::records) tests a block at
-/// a time.
+/// [`found`](Archive::found), [`verdict`](Archive::verdict) and
+/// [`unordered`](Archive::unordered), since it trusts no bytes that it is lent;
+/// [`records`](Archive::records) tests a block at a time.
 #[derive(Clone, Copy, Debug)]
 pub struct Archive<'a> {
     bytes: &'a [u8],
@@ -166,63 +162,6 @@ impl<'a> Archive<'a> {
     pub fn verdict(&self, first: u64, second: u64) -> Result<Verdict, Refusal> {
         let answer = raw::archive_verdict(self.bytes, first, second);
         judged("archive_verdict", answer)
-    }
-
-    /// The orders of up to 64 pairs of events of any phases, each pair as
-    /// [`verdict`](Archive::verdict) has it, in one go: a record that several pairs
-    /// name is fetched once, and so is a block that holds several of the records.
-    ///
-    /// # Errors
-    ///
-    /// [`Refusal::SheetTooLong`] for more pairs, then [`Refusal::NoSuchRecord`]
-    /// where a pair names no record, then [`Refusal::IllKept`]. Then no pair has an
-    /// answer.
-    ///
-    /// ```
-    /// use melontime::{archive_bytes, Archive, Header, Network, Refusal, Verdict};
-    ///
-    /// let header = Header::new(2, 40).allow(0, 20)?.allow(1, 3)?.link(0, 1, 2)?;
-    /// let mut network = Network::setup(&header)?;
-    /// // The first block holds records 0 to 14.
-    /// let mut records = (0..15).map(|k| network.enter(0, k)).collect::<Result<Vec<_>, _>>()?;
-    /// // The second holds an entry of the other station and, after a reset, one more
-    /// // of the first.
-    /// records.push(network.enter(1, 15)?);
-    /// network.start(0)?;
-    /// for (station, peer) in [(1, 0), (0, 1), (1, 0), (0, 1)] {
-    ///     network.recv(station, peer)?;
-    /// }
-    /// records.push(network.enter(0, 16)?);
-    ///
-    /// let bytes = archive_bytes(&header, &records)?;
-    /// let archive = Archive::open(&bytes)?;
-    /// let sheet = archive.sheet(&[(14, 16), (16, 0), (15, 16), (16, 16)])?;
-    /// let expected = [Verdict::Before, Verdict::After, Verdict::Unordered, Verdict::Same];
-    /// assert_eq!(sheet.verdicts(), expected);
-    /// assert_eq!(sheet.blocks(), 2); // of records 14 and 0, of 15 and 16
-    /// assert_eq!(archive.sheet(&[(3, 4); 64])?.blocks(), 1);
-    /// assert_eq!(archive.sheet(&[])?.blocks(), 0);
-    ///
-    /// assert_eq!(archive.sheet(&[(0, 1), (0, 17)]), Err(Refusal::NoSuchRecord));
-    /// assert_eq!(archive.sheet(&[(0, 17); 65]), Err(Refusal::SheetTooLong));
-    /// # Ok::<(), Refusal>(())
-    /// ```
-    pub fn sheet(&self, pairs: &[(u64, u64)]) -> Result<Sheet, Refusal> {
-        // Of a sheet that is too long, one pair too many is enough for the library
-        // to refuse it.
-        let pairs = &pairs[..pairs.len().min(MAX_PAIRS + 1)];
-        let mut numbers = [0; 2 * (MAX_PAIRS + 1)];
-        for (place, &(first, second)) in numbers.chunks_exact_mut(2).zip(pairs) {
-            place.copy_from_slice(&[first, second]);
-        }
-        let mut answers = [0; MAX_PAIRS];
-        match raw::sheet(self.bytes, &numbers[..2 * pairs.len()], &mut answers) {
-            answer @ 1000.. => Ok(Sheet {
-                verdicts: answers.into_iter().take(pairs.len()).map(placed).collect(),
-                blocks: answer - 1000,
-            }),
-            other => Err(refused("sheet", other)),
-        }
     }
 
     /// The archive as one that is well kept.
@@ -385,48 +324,6 @@ impl<'a> WellKept<'a> {
             Err(other) => panic!("a well-kept archive is {other}"),
         }
     }
-
-    /// The orders of up to 64 pairs of events of any phases, as [`Archive::sheet`].
-    ///
-    /// # Errors
-    ///
-    /// [`SheetRefusal::SheetTooLong`] for more pairs, then
-    /// [`SheetRefusal::NoSuchRecord`] where a pair names no record.
-    ///
-    /// ```
-    /// use melontime::{archive_bytes, Header, Network, Refusal, SheetRefusal, Verdict, WellKept};
-    ///
-    /// /// What a keeper is to do.
-    /// fn advice(refusal: SheetRefusal) -> &'static str {
-    ///     match refusal {
-    ///         SheetRefusal::NoSuchRecord => "look at the numbers again",
-    ///         SheetRefusal::SheetTooLong => "take two sheets",
-    ///     }
-    /// }
-    ///
-    /// let header = Header::new(1, 9).allow(0, 2)?;
-    /// let mut network = Network::setup(&header)?;
-    /// let mut records = vec![network.enter(0, 1)?, network.enter(0, 2)?];
-    /// network.start(0)?; // a reset of one
-    /// records.push(network.enter(0, 3)?);
-    ///
-    /// let bytes = archive_bytes(&header, &records)?;
-    /// let kept = WellKept::open(&bytes)?;
-    /// let sheet = kept.sheet(&[(0, 2), (2, 1), (2, 2)])?;
-    /// assert_eq!(sheet.verdicts(), [Verdict::Before, Verdict::After, Verdict::Same]);
-    /// assert_eq!(sheet.blocks(), 1); // it holds all of the records
-    ///
-    /// assert_eq!(advice(kept.sheet(&[(0, 3)]).unwrap_err()), "look at the numbers again");
-    /// assert_eq!(advice(kept.sheet(&[(0, 3); 65]).unwrap_err()), "take two sheets");
-    /// # Ok::<(), Refusal>(())
-    /// ```
-    pub fn sheet(&self, pairs: &[(u64, u64)]) -> Result<Sheet, SheetRefusal> {
-        self.archive.sheet(pairs).map_err(|refusal| {
-            let number = refusal.number();
-            SheetRefusal::from_number(number.into())
-                .unwrap_or_else(|| panic!("a well-kept archive is {refusal}"))
-        })
-    }
 }
 
 /// As [`WellKept::open`].
@@ -437,115 +334,6 @@ impl<'a> TryFrom<&'a [u8]> for WellKept<'a> {
         WellKept::open(bytes)
     }
 }
-
-/// The answer to a sheet of pairs: a verdict on each, and how many blocks were
-/// fetched for them. [`Archive::sheet`] and [`WellKept::sheet`] give it.
-///
-/// ```
-/// use melontime::{archive_bytes, Archive, Header, Network, Refusal, Verdict};
-///
-/// let header = Header::new(1, 20).allow(0, 20)?;
-/// let mut network = Network::setup(&header)?;
-/// let mut records = (0..20).map(|k| network.enter(0, k)).collect::<Result<Vec<_>, _>>()?;
-/// network.start(0)?; // a reset of one
-/// records.push(network.enter(0, 20)?);
-///
-/// let bytes = archive_bytes(&header, &records)?;
-/// let pairs = [(1, 20), (1, 1), (20, 2)];
-/// let sheet = Archive::open(&bytes)?.sheet(&pairs)?;
-/// for (&(first, second), verdict) in pairs.iter().zip(sheet.verdicts()) {
-///     println!("record {first} and record {second}: {verdict}");
-/// }
-/// assert_eq!(sheet.verdicts(), [Verdict::Before, Verdict::Same, Verdict::After]);
-/// // Records 1 and 2 are of one block, record 20 is of the next.
-/// assert_eq!(sheet.blocks(), 2);
-/// # Ok::<(), Refusal>(())
-/// ```
-#[derive(Clone, Debug, PartialEq, Eq)]
-pub struct Sheet {
-    verdicts: Vec<Verdict>,
-    blocks: u64,
-}
-
-impl Sheet {
-    /// The verdict on each pair, in the order of the pairs.
-    #[must_use]
-    pub fn verdicts(&self) -> &[Verdict] {
-        &self.verdicts
-    }
-
-    /// How many blocks were fetched to collect the named records: as many as there
-    /// are blocks that hold some of them. Passes over the archive that test it, or
-    /// that find the way across a reset, are not counted.
-    #[must_use]
-    pub fn blocks(&self) -> u64 {
-        self.blocks
-    }
-}
-
-/// The verdict in a place of a sheet that was answered.
-fn placed(number: u8) -> Verdict {
-    match Verdict::from_number(number.into()) {
-        Some(verdict) => verdict,
-        None => panic!("melontime_sheet wrote {number}, which is no verdict"),
-    }
-}
-
-/// Why a sheet was refused by a [`WellKept`] archive.
-///
-/// There is no other cause, so a `match` needs no further arm.
-#[derive(Clone, Copy, Debug, PartialEq, Eq, Hash, PartialOrd, Ord)]
-#[repr(u8)]
-pub enum SheetRefusal {
-    /// 12: a pair names no record.
-    NoSuchRecord = 12,
-    /// 14: over 128 record numbers, which is over 64 pairs.
-    SheetTooLong = 14,
-}
-
-impl SheetRefusal {
-    /// Every refusal, by rising number.
-    const ALL: [SheetRefusal; 2] = [SheetRefusal::NoSuchRecord, SheetRefusal::SheetTooLong];
-
-    /// The refusal's number, the same as in [`Refusal`].
-    #[must_use]
-    pub fn number(self) -> u8 {
-        self as u8
-    }
-
-    /// The refusal with a number; none where no sheet of a [`WellKept`] archive is
-    /// refused with it.
-    ///
-    /// ```
-    /// use melontime::{Refusal, SheetRefusal};
-    ///
-    /// assert_eq!(SheetRefusal::from_number(14), Some(SheetRefusal::SheetTooLong));
-    /// assert_eq!(SheetRefusal::from_number(13), None);
-    /// assert_eq!(Refusal::from(SheetRefusal::SheetTooLong), Refusal::SheetTooLong);
-    /// ```
-    #[must_use]
-    pub fn from_number(number: u64) -> Option<SheetRefusal> {
-        let mut all = SheetRefusal::ALL.into_iter();
-        all.find(|refusal| u64::from(refusal.number()) == number)
-    }
-}
-
-impl From<SheetRefusal> for Refusal {
-    fn from(refusal: SheetRefusal) -> Refusal {
-        match refusal {
-            SheetRefusal::NoSuchRecord => Refusal::NoSuchRecord,
-            SheetRefusal::SheetTooLong => Refusal::SheetTooLong,
-        }
-    }
-}
-
-impl fmt::Display for SheetRefusal {
-    fn fmt(&self, f: &mut fmt::Formatter<'_>) -> fmt::Result {
-        Refusal::from(*self).fmt(f)
-    }
-}
-
-impl std::error::Error for SheetRefusal {}
 
 /// The records of an [`Archive`], in the order of their numbers.
 #[derive(Clone, Debug)]

@@ -10,11 +10,10 @@
 //! numbers and byte slices Rust types: a [`Network`] of stations with its
 //! steps, the [`Record`] of an event, the [`Receipt`] of a message with its
 //! news, the [`Verdict`] on two records, header and entries blocks, and the
-//! [`Archive`], which is asked for the order of any two of its records, or of up
-//! to 64 pairs at once, which comes as a [`Sheet`]. A refused call is an `Err`
-//! with its [`Refusal`], and changes nothing. A station is named by a `u32`,
-//! everywhere. A [`Reached`] network is one that comes from setup by steps
-//! alone; its steps have five causes to be refused, and no other.
+//! [`Archive`], which is asked for the order of any two of its records. A
+//! refused call is an `Err` with its [`Refusal`], and changes nothing. A station
+//! is named by a `u32`, everywhere. A [`Reached`] network is one that comes from
+//! setup by steps alone; its steps have five causes to be refused, and no other.
 //! [`ReceiptsOnly`] lays one up: it takes receipts alone, and tells how many
 //! there are still to come. A [`WellKept`] archive has an order of any two of its
 //! records, whatever their phases.
@@ -66,9 +65,9 @@
 //! # Ok::<(), Refusal>(())
 //! ```
 //!
-//! The library is linked as `libmelontime.a` from the folder `target/staticlib` of
-//! the repository, or from the one that the environment variable
-//! `MELONTIME_LIB` names.
+//! The library is linked as `libmelontime.a` from the folder
+//! `crates/melontime/out` of the repository, or from the one that the environment
+//! variable `MELONTIME_LIB` names.
 
 #![deny(unsafe_code)]
 #![warn(missing_docs)]
@@ -82,7 +81,7 @@ mod reached;
 mod record;
 mod refusal;
 
-pub use archive::{archive_bytes, Archive, Records, Sheet, SheetRefusal, WellKept};
+pub use archive::{archive_bytes, Archive, Records, WellKept};
 pub use blocks::{write_entries, EntriesBlock, Header};
 pub use network::{InMode, Mode, Network, NetworkMut, Outcome, Receipt};
 pub use reached::{Reached, ReceiptsOnly, StepRefusal};
@@ -103,6 +102,3 @@ pub const RECORD: usize = 32;
 
 /// Most records of an entries block.
 pub const MAX_RECORDS: usize = 15;
-
-/// Most pairs of a sheet.
-pub const MAX_PAIRS: usize = 64;

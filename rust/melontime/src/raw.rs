@@ -119,14 +119,6 @@ mod library {
             first: u64,
             second: u64,
         ) -> u64;
-        pub fn melontime_sheet(
-            archive: *const u8,
-            archive_length: usize,
-            numbers: *const u64,
-            numbers_length: usize,
-            answers: *mut u8,
-            answers_length: usize,
-        ) -> u64;
     }
 }
 
@@ -339,21 +331,4 @@ pub fn unordered(archive: &[u8], number: u64, list: &mut [u64]) -> u64 {
 pub fn archive_verdict(archive: &[u8], first: u64, second: u64) -> u64 {
     // SAFETY: see the head of this module.
     unsafe { library::melontime_archive_verdict(archive.as_ptr(), archive.len(), first, second) }
-}
-
-/// The orders of pairs of records of an archive, by their numbers: pair i is
-/// numbers 2i and 2i + 1, and place i of the answers is the number of its verdict.
-#[must_use]
-pub fn sheet(archive: &[u8], numbers: &[u64], answers: &mut [u8]) -> u64 {
-    // SAFETY: see the head of this module.
-    unsafe {
-        library::melontime_sheet(
-            archive.as_ptr(),
-            archive.len(),
-            numbers.as_ptr(),
-            numbers.len(),
-            answers.as_mut_ptr(),
-            answers.len(),
-        )
-    }
 }

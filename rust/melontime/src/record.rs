@@ -29,19 +29,6 @@ pub enum Verdict {
     Unordered,
 }
 
-impl Verdict {
-    /// The verdict with a number of the library; none where no verdict has it.
-    pub(crate) fn from_number(number: u64) -> Option<Verdict> {
-        match number {
-            100 => Some(Verdict::Before),
-            101 => Some(Verdict::After),
-            102 => Some(Verdict::Same),
-            103 => Some(Verdict::Unordered),
-            _ => None,
-        }
-    }
-}
-
 impl fmt::Display for Verdict {
     fn fmt(&self, f: &mut fmt::Formatter<'_>) -> fmt::Result {
         f.write_str(match self {
@@ -215,5 +202,11 @@ pub fn verdict(first: &[u8], second: &[u8]) -> Result<Verdict, Refusal> {
 
 /// The answer of a call that gives the order of two records.
 pub(crate) fn judged(call: &str, number: u64) -> Result<Verdict, Refusal> {
-    Verdict::from_number(number).ok_or_else(|| refused(call, number))
+    match number {
+        100 => Ok(Verdict::Before),
+        101 => Ok(Verdict::After),
+        102 => Ok(Verdict::Same),
+        103 => Ok(Verdict::Unordered),
+        other => Err(refused(call, other)),
+    }
 }

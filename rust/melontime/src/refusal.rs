@@ -46,13 +46,11 @@ pub enum Refusal {
     DifferentPhases = 10,
     /// 11: an area or list that is too small, or of another length than asked.
     AreaLength = 11,
-    /// 12: no record of this number; half a pair; a write of 0 or over 15 records.
+    /// 12: no record of this number; a write of 0 or over 15 records.
     NoSuchRecord = 12,
     /// 13: an archive is asked for the order of two records, and in some phase the
     /// own counts of a station are not 1, 2, 3 and so on, each once.
     IllKept = 13,
-    /// 14: a sheet of over 128 record numbers, which is over 64 pairs.
-    SheetTooLong = 14,
 }
 
 impl Refusal {
@@ -70,7 +68,6 @@ impl Refusal {
         Refusal::AreaLength,
         Refusal::NoSuchRecord,
         Refusal::IllKept,
-        Refusal::SheetTooLong,
     ];
 
     /// The refusal's number.
@@ -102,9 +99,8 @@ impl fmt::Display for Refusal {
             Refusal::LastPhase => "the phase is the last",
             Refusal::DifferentPhases => "the records are of different phases",
             Refusal::AreaLength => "an area has the wrong length",
-            Refusal::NoSuchRecord => "no such record or pair, or no such number of records",
+            Refusal::NoSuchRecord => "no such record, or no such number of records",
             Refusal::IllKept => "the archive lacks records of a station, or has some twice",
-            Refusal::SheetTooLong => "the sheet has over 128 numbers, which is over 64 pairs",
         };
         write!(f, "refused with {}: {cause}", self.number())
     }

@@ -66,12 +66,6 @@ impl WellKept {
         Ok(WellKept { records, last })
     }
 
-    /// The records of an archive; 13 where it is not well kept.
-    pub fn of_archive(archive: &Archive) -> Result<WellKept, Refusal> {
-        let records = (0..archive.count()).map(|number| archive.record(number));
-        WellKept::of(records.collect::<Result<_, _>>()?)
-    }
-
     /// The stations that a record reaches before a later phase: those whose last
     /// timestamp in its own phase has, for its station, at least its own count,
     /// and those that join in a phase between. A phase without records has none
@@ -97,12 +91,8 @@ impl WellKept {
     /// The verdict on two records of any phases by their numbers, or 12.
     pub fn verdict(&self, first: usize, second: usize) -> Result<Verdict, Refusal> {
         let record = |number: usize| self.records.get(number).ok_or(Refusal::NoSuchRecord);
-        Ok(self.verdict_on(record(first)?, record(second)?))
-    }
-
-    /// The verdict on two of the records, of any phases.
-    pub fn verdict_on(&self, first: &Record, second: &Record) -> Verdict {
-        if first.phase == second.phase {
+        let (first, second) = (record(first)?, record(second)?);
+        Ok(if first.phase == second.phase {
             compare(&first.counts, &second.counts)
         } else if first.phase < second.phase && self.precedes(first, second) {
             Verdict::Before
@@ -110,7 +100,7 @@ impl WellKept {
             Verdict::After
         } else {
             Verdict::Unordered
-        }
+        })
     }
 }
 
@@ -120,5 +110,6 @@ pub fn verdict(bytes: &[u8], first: usize, second: usize) -> Result<Verdict, Ref
     let archive = Archive::open(bytes)?;
     archive.bytes_of(first)?;
     archive.bytes_of(second)?;
-    WellKept::of_archive(&archive)?.verdict(first, second)
+    let records = (0..archive.count()).map(|number| archive.record(number));
+    WellKept::of(records.collect::<Result<_, _>>()?)?.verdict(first, second)
 }

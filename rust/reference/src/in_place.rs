@@ -11,7 +11,6 @@ mod head;
 mod lanes;
 mod receipts;
 mod records;
-pub mod sheet;
 
 use self::formed::head_of;
 use self::head::{links_of, Head};

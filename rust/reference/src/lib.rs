@@ -13,12 +13,11 @@
 //!
 //! | module | section of document 01 |
 //! |---|---|
-//! | [`refusal`] | 'State area and host', the table of numbers; document 02, CR 2, CR 6 and CR 9 |
+//! | [`refusal`] | 'State area and host', the table of numbers; document 02, CR 2 and CR 9 |
 //! | [`check`], [`header`], [`entries`], [`record`] | 'Archive blocks'; document 02, CR 3 |
 //! | [`order`] | 'Plain network and recorded order', timestamp order and verdicts |
 //! | [`archive`] | 'Archive blocks', archives, readers and lists; document 02, CR 4 |
 //! | [`between_phases`] | document 02, CR 2 |
-//! | [`sheet`] | document 02, CR 6 |
 //! | [`network`] | 'The network', 'What a station holds', 'The steps', 'State area and host'; document 02, CR 5, CR 7, CR 9 and CR 12 |
 //! | [`area`], [`in_place`] | 'State area and host', with the layout of docs/LAYOUT.md |
 //! | [`causality`] | 'Plain network and recorded order', demand 3 |
@@ -44,7 +43,6 @@ pub mod order;
 pub mod random;
 pub mod record;
 pub mod refusal;
-pub mod sheet;
 pub mod turnover;
 
 /// Most stations that a network can have ('The network').

@@ -1,5 +1,5 @@
 //! The causes of a refusal and their numbers: the table of 'State area and
-//! host' in document 01; CR 2, CR 6 and CR 9 in document 02.
+//! host' in document 01; CR 2 and CR 9 in document 02.
 
 use std::fmt;
 
@@ -27,19 +27,16 @@ pub enum Refusal {
     DifferentPhases,
     /// 11: a list, write or read buffer too small, or an area of another length.
     BufferLength,
-    /// 12: record number not in the block or archive; half a pair; a write of 0 or
-    /// over 15 records.
+    /// 12: record number not in the block or archive; a write of 0 or over 15 records.
     NoSuchRecord,
     /// 13: a station's own counts in some phase of an archive are not 1, 2, 3 ..,
     /// each once.
     IllKept,
-    /// 14: a sheet of over 128 numbers.
-    SheetTooLong,
 }
 
 impl Refusal {
     /// Every refusal, by rising number.
-    pub const ALL: [Refusal; 13] = [
+    pub const ALL: [Refusal; 12] = [
         Refusal::Malformed,
         Refusal::IllFormedState,
         Refusal::NetworkRule,
@@ -52,7 +49,6 @@ impl Refusal {
         Refusal::BufferLength,
         Refusal::NoSuchRecord,
         Refusal::IllKept,
-        Refusal::SheetTooLong,
     ];
 
     /// The number of the table.
@@ -70,7 +66,6 @@ impl Refusal {
             Refusal::BufferLength => 11,
             Refusal::NoSuchRecord => 12,
             Refusal::IllKept => 13,
-            Refusal::SheetTooLong => 14,
         }
     }
 

@@ -11,7 +11,6 @@ use crate::order::Verdict;
 use crate::record::RECORD;
 use crate::refusal::Refusal;
 use crate::{Counts, MAX_STATIONS};
-use std::ops::Range;
 
 /// The bits of an own count.
 const OWN: u32 = 16;
@@ -27,60 +26,6 @@ fn place_of(record: &[u8; RECORD]) -> u64 {
 /// A phase from 1 on, in lanes of 32 bits.
 fn phase_in(place: u64) -> i32 {
     (place >> OWN) as i32
-}
-
-/// The phase of a record, from 1 on.
-pub(super) fn phase_from_one(record: &[u8; RECORD]) -> i32 {
-    phase_in(place_of(record))
-}
-
-/// Two records, the one of the later phase behind the other.
-pub(super) struct Pair<'a> {
-    pub(super) earlier: &'a [u8; RECORD],
-    pub(super) later: &'a [u8; RECORD],
-    mirrored: bool,
-}
-
-impl<'a> Pair<'a> {
-    pub(super) fn of(first: &'a [u8; RECORD], second: &'a [u8; RECORD]) -> Pair<'a> {
-        let mirrored = phase_from_one(first) > phase_from_one(second);
-        let (earlier, later) = match mirrored {
-            true => (second, first),
-            false => (first, second),
-        };
-        Pair {
-            earlier,
-            later,
-            mirrored,
-        }
-    }
-
-    /// The phases from the earlier record's to the one before the later's.
-    pub(super) fn phases(&self) -> Range<i32> {
-        phase_from_one(self.earlier)..phase_from_one(self.later)
-    }
-
-    /// The verdict; of two phases it hangs on whether the earlier record precedes
-    /// the later.
-    pub(super) fn judge(&self, precedes: impl FnOnce() -> bool) -> Verdict {
-        let (below, above) = match self.phases().is_empty() {
-            true => differ(&counts_of(self.earlier), &counts_of(self.later)),
-            false => (true, !precedes()),
-        };
-        match (below, above) {
-            (true, true) => Verdict::Unordered,
-            (false, false) => Verdict::Same,
-            _ if below != self.mirrored => Verdict::Before,
-            _ => Verdict::After,
-        }
-    }
-}
-
-/// What the last record of each station in each phase is handed to.
-pub(super) trait TakeLast<'a> {
-    /// Takes the last record of a station in a phase, from 1 on. Phase 0, of a
-    /// station that has none yet, is to be passed over.
-    fn take_last(&mut self, station: usize, phase: i32, record: &'a [u8; RECORD]);
 }
 
 /// The phase behind which a station is reached that never is.
@@ -102,16 +47,33 @@ struct Reach {
 }
 
 impl Reach {
-    fn of(pair: &Pair) -> Reach {
-        let phases = pair.phases();
+    fn of(first: &[u8; RECORD], second: &[u8; RECORD]) -> Reach {
         Reach {
-            station: station_of(pair.earlier),
-            own_count: own_count_of(pair.earlier),
-            first_phase: phases.start,
-            second_phase: phases.end,
+            station: station_of(first),
+            own_count: own_count_of(first),
+            first_phase: phase_in(place_of(first)),
+            second_phase: phase_in(place_of(second)),
             from: [NEVER; MAX_STATIONS],
             missed: [0; MAX_STATIONS],
             late: false,
+        }
+    }
+
+    /// Takes the last record of a station in a phase. Phases may come in any
+    /// order; where that was too late for some, all are to be taken once more.
+    #[inline(always)]
+    fn take_last(&mut self, station: usize, phase: i32, record: &[u8; RECORD]) {
+        let between = (phase >= self.first_phase) & (phase < self.second_phase);
+        if between & (phase < self.from[station]) {
+            let counts = counts_of(record);
+            let joins = match phase == self.first_phase {
+                true => counts[self.station] >= self.own_count,
+                false => self.knows_one(&counts, phase),
+            };
+            if joins {
+                self.from[station] = phase;
+                self.late |= self.missed[station] > phase;
+            }
         }
     }
 
@@ -130,30 +92,10 @@ impl Reach {
     }
 }
 
-impl TakeLast<'_> for Reach {
-    /// Phases may come in any order; where that was too late for some, all are to
-    /// be taken once more.
-    #[inline(always)]
-    fn take_last(&mut self, station: usize, phase: i32, record: &[u8; RECORD]) {
-        let between = (phase >= self.first_phase) & (phase < self.second_phase);
-        if between & (phase < self.from[station]) {
-            let counts = counts_of(record);
-            let joins = match phase == self.first_phase {
-                true => counts[self.station] >= self.own_count,
-                false => self.knows_one(&counts, phase),
-            };
-            if joins {
-                self.from[station] = phase;
-                self.late |= self.missed[station] > phase;
-            }
-        }
-    }
-}
-
-/// Goes along records, each station's by phase and own count, and hands on the
-/// last one of each station in each phase.
-pub(super) struct Walk<'a, L> {
-    pub(super) lasts: L,
+/// Goes along records, each station's by phase and own count, and hands the last
+/// one of each station in each phase to the reach.
+struct Walk<'a> {
+    reach: Reach,
     /// The place of each station's record before, and the record.
     before: [(u64, &'a [u8; RECORD]); MAX_STATIONS],
     /// Whether the own counts in each phase were 1, 2, 3 .. so far.
@@ -163,10 +105,10 @@ pub(super) struct Walk<'a, L> {
 /// Before each station's first record.
 const NONE: [(u64, &[u8; RECORD]); MAX_STATIONS] = [(0, &[0; RECORD]); MAX_STATIONS];
 
-impl<'a, L: TakeLast<'a>> Walk<'a, L> {
-    fn new(lasts: L) -> Walk<'a, L> {
+impl<'a> Walk<'a> {
+    fn new(first: &[u8; RECORD], second: &[u8; RECORD]) -> Walk<'a> {
         Walk {
-            lasts,
+            reach: Reach::of(first, second),
             before: NONE,
             in_order: true,
         }
@@ -178,7 +120,7 @@ impl<'a, L: TakeLast<'a>> Walk<'a, L> {
         let starts = (place as u16 == 1) & (place > before);
         self.in_order &= starts | (place == before + 1);
         if starts {
-            self.lasts.take_last(station, phase_in(before), last);
+            self.reach.take_last(station, phase_in(before), last);
         }
         self.before[station] = (place, record);
     }
@@ -194,7 +136,19 @@ impl<'a, L: TakeLast<'a>> Walk<'a, L> {
     fn end(&mut self) {
         let before = std::mem::replace(&mut self.before, NONE);
         for (station, (place, record)) in before.into_iter().enumerate() {
-            self.lasts.take_last(station, phase_in(place), record);
+            self.reach.take_last(station, phase_in(place), record);
+        }
+    }
+
+    /// Goes along all records until nothing is late. What was too late is in time
+    /// the next time, so that a walk more is due for each station at most.
+    fn repeat(&mut self, blocks: &'a [[u8; BLOCK]]) {
+        while std::mem::take(&mut self.reach.late) {
+            self.reach.missed = [0; MAX_STATIONS];
+            for block in blocks {
+                self.add_block(block);
+            }
+            self.end();
         }
     }
 
@@ -225,20 +179,6 @@ impl<'a, L: TakeLast<'a>> Walk<'a, L> {
     }
 }
 
-impl<'a> Walk<'a, Reach> {
-    /// Goes along all records until nothing is late. What was too late is in time
-    /// the next time, so that a walk more is due for each station at most.
-    fn repeat(&mut self, blocks: &'a [[u8; BLOCK]]) {
-        while std::mem::take(&mut self.lasts.late) {
-            self.lasts.missed = [0; MAX_STATIONS];
-            for block in blocks {
-                self.add_block(block);
-            }
-            self.end();
-        }
-    }
-}
-
 /// Bits of a record's number where all that it is sorted by leaves them free.
 const NUMBER: u32 = 25;
 
@@ -258,46 +198,54 @@ fn sorted<K: Ord>(blocks: &[[u8; BLOCK]], key: impl Fn(u64, usize) -> K) -> Vec<
     keys
 }
 
-/// Goes along the records of an archive, which has so many at least and is well
-/// kept; also answers its entries blocks. Refusals 1, 12, 13.
-#[inline(always)]
-pub(super) fn walk<'a, L: TakeLast<'a>>(
-    bytes: &'a [u8],
-    least: usize,
-    lasts: impl Fn() -> L,
-) -> Result<(Walk<'a, L>, &'a [[u8; BLOCK]]), Refusal> {
-    let mut walk = Walk::new(lasts());
-    let (blocks, count) = test(bytes, |_, block| {
-        if walk.in_order {
-            walk.add_block(block);
-        }
-    })?;
-    if count < least {
-        return Err(Refusal::NoSuchRecord);
-    }
-    if walk.in_order {
-        walk.end();
-    } else {
-        walk = Walk::new(lasts());
-        walk.go_sorted(blocks, count <= 1 << NUMBER);
-    }
-    match walk.in_order {
-        true => Ok((walk, blocks)),
-        false => Err(Refusal::IllKept),
-    }
-}
-
 /// The verdict on two records by their numbers, as
 /// [`crate::between_phases::verdict`].
 pub fn verdict(bytes: &[u8], first: usize, second: usize) -> Result<Verdict, Refusal> {
     let (Some(x), Some(y)) = (place(bytes, first), place(bytes, second)) else {
         return record_count(bytes).and(Err(Refusal::NoSuchRecord));
     };
-    let pair = Pair::of(x, y);
-    let (mut walk, blocks) = walk(bytes, first.max(second) + 1, || Reach::of(&pair))?;
-    walk.repeat(blocks);
-    let (mut reach, counts) = (walk.lasts, counts_of(pair.later));
-    Ok(pair.judge(|| reach.knows_one(&counts, reach.second_phase)))
+    let mirrored = place_of(x) >> OWN > place_of(y) >> OWN;
+    let (earlier, later) = if mirrored { (y, x) } else { (x, y) };
+    let mut walk = Walk::new(earlier, later);
+    let (blocks, count) = test(bytes, |_, block| {
+        if walk.in_order {
+            walk.add_block(block);
+        }
+    })?;
+    if first >= count || second >= count {
+        return Err(Refusal::NoSuchRecord);
+    }
+    if walk.in_order {
+        walk.end();
+        walk.repeat(blocks);
+    } else {
+        walk = Walk::new(earlier, later);
+        walk.go_sorted(blocks, count <= 1 << NUMBER);
+    }
+    if !walk.in_order {
+        return Err(Refusal::IllKept);
+    }
+    Ok(judge(walk.reach, earlier, later, mirrored))
+}
+
+/// The verdict where all that is reached is known.
+fn judge(
+    mut reach: Reach,
+    earlier: &[u8; RECORD],
+    later: &[u8; RECORD],
+    mirrored: bool,
+) -> Verdict {
+    let counts = counts_of(later);
+    let (below, above) = match reach.first_phase == reach.second_phase {
+        true => differ(&counts_of(earlier), &counts),
+        false => (true, !reach.knows_one(&counts, reach.second_phase)),
+    };
+    match (below, above) {
+        (true, true) => Verdict::Unordered,
+        (false, false) => Verdict::Same,
+        _ if below != mirrored => Verdict::Before,
+        _ => Verdict::After,
+    }
 }
 
 #[cfg(test)]
@@ -321,9 +269,9 @@ mod tests {
             let mut any = || place(&bytes, rng.index(records.len())).expect("a record");
             let (first, second) = (any(), any());
             let walked = |narrow| {
-                let mut walk = Walk::new(Reach::of(&Pair::of(first, second)));
+                let mut walk = Walk::new(first, second);
                 walk.go_sorted(blocks, narrow);
-                (walk.in_order, walk.lasts.from)
+                (walk.in_order, walk.reach.from)
             };
             assert_eq!(walked(true), walked(false));
             assert!(walked(true).0);
