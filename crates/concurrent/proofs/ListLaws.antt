@@ -23,7 +23,7 @@ use Rattle.archive.specs.Archive.{archive_test, records}
 use Rattle.events.specs.Events.{event_at, station_at, own_at}
 use Rattle.events.proofs.Laws.{station-small}
 use Rattle.concurrent.proofs.Laws.{has_below}
-use Rattle.concurrent.specs.Unordered.{has_concurrent, is_unordered, concurrent_count, of_station, of_pair, concurrent_list, unordered_list, Ahead, Lists, OneList, EveryList}
+use Rattle.concurrent.specs.Unordered.{has_concurrent, is_unordered, concurrent_count, of_station, of_pair, concurrent_list, unordered_list, Ahead, Lists, EveryList}
 
 -- ---- the order
 pub ahead_one_way : (a : List ℕ) (x y : ℕ) → Ahead a x y → Ahead a y x → ⊥

@@ -143,7 +143,7 @@ module _ (number : ℕ) (rs : List ℕ) (few : length rs ≤ 480) (some : 1 ≤ 
   -- the places of the pieces of a block
   record Places : Type 0 where
     kind_at : get_or x 0 0 ≡ 2
-    count_at_lem : get_or x 1 0 ≡ length rs / 32
+    count_at : get_or x 1 0 ≡ length rs / 32
     spare_at : num_at 2 x 2 ≡ 0
     number_at : Has x 4 (bytes_of 4 number)
     zeros_at : Has x 8 (blank 8)
@@ -162,7 +162,7 @@ module _ (number : ℕ) (rs : List ℕ) (few : length rs ≤ 480) (some : 1 ≤ 
       let ne : length e ≡ 16 + length rs = simp length-append (omega arith) in
       record {
         kind_at = refl;
-        count_at_lem = refl;
+        count_at = refl;
         spare_at = refl;
         number_at = has_more _ (has_more (blank (494 - length rs)) (has_more rs (has_more (blank 8) (has_last a (bytes_of 4 number) 4 refl))));
         zeros_at = has_more _ (has_more (blank (494 - length rs)) (has_more rs (has_last b (blank 8) 8 refl)));

@@ -12,7 +12,7 @@ use borrow.Author.Tests.{eq-eqb, ne_eqb}
 use Rattle.codec.specs.Num.{AreBytes}
 use Rattle.codec.specs.Every.{count_below}
 use Rattle.codec.proofs.CountLaws.{count_none, count-passed, count_failed, count-empty}
-use Rattle.lists.specs.Lists.{is, count, same, Arranged}
+use Rattle.lists.specs.Lists.{is, same, Arranged}
 use Rattle.archive.specs.Archive.{archive_test, records}
 use Rattle.well_kept.specs.WellKept.{well_kept}
 use Rattle.well_kept.specs.Keys.{key_at, no_key, has_key, times, runs_on, last_from, keys_in}

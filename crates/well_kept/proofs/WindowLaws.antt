@@ -14,9 +14,8 @@ use borrow.Author.Tests.{lt-ltb, le-ltb, le-leb, lt-leb, eq-eqb, ne_eqb}
 use Rattle.codec.specs.Every.{count_below}
 use Rattle.codec.proofs.EveryLaws.{both}
 use Rattle.codec.proofs.CountLaws.{count_none, count-passed, count_failed}
-use Rattle.lists.specs.Lists.{is, count, Up, same}
+use Rattle.lists.specs.Lists.{count, Up, same}
 use Rattle.lists.proofs.CountLaws.{is_itself, is_other, find, Stands as Stand}
-use Rattle.archive.specs.Archive.{records}
 use Rattle.well_kept.specs.Keys.{key_at, no_key, has_key, times, follows, runs_on, last_from, within, keys_in}
 use Rattle.well_kept.specs.Windows.{Gathered, Stands, Checked}
 use Rattle.well_kept.specs.declared.Window.{Window}

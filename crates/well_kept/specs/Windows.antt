@@ -1,6 +1,5 @@
 -- What the passes over the keys of an archive gather. Assumes nothing.
 use Rattle.std.specs.Prelude.{ℕ, ◌+◌, ◌-◌, ◌/◌, ◌%◌, ◌≤◌, ◌<◌, ◌≡◌, ◌⊎◌, List, length, get_or, take}
-use Rattle.archive.specs.Archive.{records}
 use Rattle.well_kept.specs.Keys.{key_at, no_key, times, keys_in}
 use Rattle.well_kept.specs.declared.Window.{Window}
 

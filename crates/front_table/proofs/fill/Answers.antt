@@ -1,0 +1,30 @@
+use Prim.Native.Nat.{◌+◌, ◌*◌}
+use mathlib.Core.Path.{◌≡◌, ◌∙◌, sym}
+use native.Mathlib.Omega.{arith}
+use Rattle.header.specs.Header.{table_at}
+use Rattle.front_table.specs.Fronts.{may_stand, front_of}
+use Rattle.front_table.proofs.TableLaws.{linked_at, row_none, row_more}
+use Rattle.front_table.proofs.fill.Goals as goal
+
+pub loop-s-init : goal.loop-s-init
+loop-s-init c =
+    let a = c.args in
+    (omega arith, row_none a.top (table_at 8 a.head.now 32) (a.kind * 8 + a.p) a.r.now)
+
+pub limit-requires : goal.limit-requires
+limit-requires c = (c.requires.1, omega arith, omega arith)
+
+pub loop-s-preserved : goal.loop-s-preserved
+unfolding may_stand
+loop-s-preserved c =
+    let a = c.args in
+    let l = c.loop-s in
+    let m = table_at 8 a.head.now 32 in
+    let e = linked_at a.kind l.s a.p (omega arith) (omega arith) (omega arith) (omega arith) a.top m in
+    let x : c.front.result ≡ front_of a.top m ((a.kind * 8 + a.p) * 8 + l.s) = (rw c.limit.ensures at c.front.ensures) ∙ sym e in
+    (omega arith, row_more a.top m (a.kind * 8 + a.p) l.s a.r.now l.r c.front.result (omega arith) (omega arith) x l.invariant.1)
+
+pub returns : goal.returns
+returns c =
+    let e : c.loop-s.s ≡ 8 = omega arith in
+    rw e at c.loop-s.invariant.1
