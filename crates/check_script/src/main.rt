@@ -4,9 +4,12 @@
 ghost use Rattle.std.specs.Prelude.{◌≡◌, ◌<◌, ◌≤◌, length};
 ghost use Rattle.turnover_input.specs.Kept.{line_size};
 
-use libc::{STDIN_FILENO, STDOUT_FILENO};
+use std::io::Read;
 use turnover_input::command::Command;
 use turnover_input::lines::Filled;
+
+// The standard output.
+const STDOUT: i32 = 1;
 
 // How much of a line is kept between reads, and whether more may come.
 #[derive(Clone, Copy)]
@@ -16,27 +19,27 @@ struct Reading {
 }
 
 fn value(x: u64) {
-    io::write_all(STDOUT_FILENO, b" ");
-    io::print_decimal(STDOUT_FILENO, x);
+    io::write_all(STDOUT, b" ");
+    io::print_decimal(STDOUT, x);
 }
 
 // Setup's commands, and whether it was one.
 fn setting(c: Command) -> bool {
     match c {
         Command::Net { n, t } => {
-            io::write_all(STDOUT_FILENO, b"Net");
+            io::write_all(STDOUT, b"Net");
             value(n as u64);
             value(t as u64);
             true
         }
         Command::Allow { station, allowance } => {
-            io::write_all(STDOUT_FILENO, b"Allow");
+            io::write_all(STDOUT, b"Allow");
             value(station as u64);
             value(allowance as u64);
             true
         }
         Command::Link { from, to, limit } => {
-            io::write_all(STDOUT_FILENO, b"Link");
+            io::write_all(STDOUT, b"Link");
             value(from as u64);
             value(to as u64);
             value(limit as u64);
@@ -49,7 +52,7 @@ fn setting(c: Command) -> bool {
 fn step(c: Command) {
     match c {
         Command::Enter { station, register } => {
-            io::write_all(STDOUT_FILENO, b"Enter");
+            io::write_all(STDOUT, b"Enter");
             value(station as u64);
             value(register as u64);
         }
@@ -58,22 +61,22 @@ fn step(c: Command) {
             peer,
             register,
         } => {
-            io::write_all(STDOUT_FILENO, b"Send");
+            io::write_all(STDOUT, b"Send");
             value(station as u64);
             value(peer as u64);
             value(register as u64);
         }
         Command::Recv { station, peer } => {
-            io::write_all(STDOUT_FILENO, b"Recv");
+            io::write_all(STDOUT, b"Recv");
             value(station as u64);
             value(peer as u64);
         }
         Command::Start { station } => {
-            io::write_all(STDOUT_FILENO, b"Start");
+            io::write_all(STDOUT, b"Start");
             value(station as u64);
         }
         _ => {
-            io::write_all(STDOUT_FILENO, b"Bad");
+            io::write_all(STDOUT, b"Bad");
         }
     }
 }
@@ -82,7 +85,7 @@ fn show(c: Command) {
     if !setting(c) {
         step(c);
     }
-    io::write_all(STDOUT_FILENO, b"\n");
+    io::write_all(STDOUT, b"\n");
 }
 
 // What is kept after a fill: nothing, where the line is whole.
@@ -115,24 +118,23 @@ fn feed(bytes: &[u8], line: &mut [u8], have: usize) -> usize
 }
 
 // One read, of few bytes, so that most lines come in parts.
-fn turn(line: &mut [u8], have: usize) -> Reading
+fn turn(input: &mut impl Read, line: &mut [u8], have: usize) -> Reading
     requires { (have ≤ line_size) × (length line.old ≡ line_size) }
     ensures { result.have ≤ line_size }
 {
     let mut buf = [0u8; 7];
-    let got = libc::read(STDIN_FILENO, &mut buf);
-    if got <= 0 {
-        return Reading { have, open: false };
-    }
-    let n = io::count(got, &buf);
-    Reading {
-        have: feed(&buf[..n], line, have),
-        open: true,
+    match input.read(&mut buf) {
+        Ok(0) => Reading { have, open: false },
+        Ok(n) => Reading {
+            have: feed(&buf[..n], line, have),
+            open: true,
+        },
+        Err(_) => Reading { have, open: false },
     }
 }
 
 // Nothing says that the input ends, so the reads are counted down from a number that no run uses up.
-fn commands(line: &mut [u8])
+fn commands(input: &mut impl Read, line: &mut [u8])
     requires { length line.old ≡ line_size }
 {
     let mut s = Reading {
@@ -146,7 +148,7 @@ fn commands(line: &mut [u8])
             break;
         }
         let have = s.have;
-        s = turn(line, have);
+        s = turn(input, line, have);
         turns -= 1;
     }
     let have = s.have;
@@ -157,9 +159,9 @@ fn commands(line: &mut [u8])
 
 // The whole buffer, so that what a line leaves is seen too.
 fn present(out: &[u8], end: usize) {
-    io::write_all(STDOUT_FILENO, out);
+    io::write_all(STDOUT, out);
     value(end as u64);
-    io::write_all(STDOUT_FILENO, b"\n");
+    io::write_all(STDOUT, b"\n");
 }
 
 fn entry(number: u64, phase: u32, station: u8, counts: [u16; 8], n: u8) {
@@ -246,9 +248,10 @@ fn refusals() {
     others(255);
 }
 
-fn main() {
+fn main(rt: HostRuntime) {
+    let mut input = rt.reader();
     let mut line = [0u8; 32];
-    commands(&mut line);
+    commands(&mut input, &mut line);
     entries();
     receipts();
     modes();

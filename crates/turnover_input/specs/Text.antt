@@ -31,10 +31,10 @@ command_fits (Recv i j) = ltb i 8 && ltb j 8
 command_fits (Start i) = ltb i 8
 command_fits Bad = false
 
--- a line is a text of the well_made_lem command c
+-- a line is a text of the well-made command c
 abbrev pub IsText : List ℕ → Command → Type 0
 IsText line c = (command_fits c ≡ true) × ((brief : Bool) × (text_of brief c ≡ line))
 
--- what a line says: the well_made_lem command of which it is a text, or Bad where it is a text of none
+-- what a line says: the well-made command of which it is a text, or Bad where it is a text of none
 abbrev pub Means : List ℕ → Command → Type 0
 Means line c = IsText line c ⊎ ((c ≡ Bad) × ((d : Command) → IsText line d → ⊥))

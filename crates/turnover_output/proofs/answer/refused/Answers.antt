@@ -1,0 +1,26 @@
+use native.Mathlib.Omega.{arith}
+use Rattle.turnover_output.proofs.TextAtLaws.{text_more}
+use Rattle.turnover_output.proofs.AnswerLaws.{length64, length8}
+use Rattle.turnover_output.specs.Answer.{refused_text}
+use Rattle.turnover_output.proofs.answer.refused.Goals as goal
+
+pub number-a-requires : goal.number-a-requires
+number-a-requires c = omega (arith, length64 _ c.ranges.number, length8 _ c.ranges.refusal)
+
+pub word-b-requires : goal.word-b-requires
+word-b-requires c = omega (arith, length64 _ c.ranges.number, length8 _ c.ranges.refusal)
+
+pub number-c-requires : goal.number-c-requires
+number-c-requires c = omega (arith, length64 _ c.ranges.number, length8 _ c.ranges.refusal)
+
+pub word-requires : goal.word-requires
+word-requires c = omega (arith, length64 _ c.ranges.number, length8 _ c.ranges.refusal)
+
+pub returns : goal.returns
+unfolding refused_text
+returns c =
+    let x = c.number-a.ensures in
+    let y = c.word-b.ensures in
+    let z = c.number-c.ensures in
+    let l = c.word.ensures in
+    record { text_at = text_more (text_more (text_more x y) z) l; upper_bound = omega (arith, length64 _ c.ranges.number, length8 _ c.ranges.refusal, x.next, y.next, z.next, l.next) }
