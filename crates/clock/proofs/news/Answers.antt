@@ -22,17 +22,17 @@ overflow_add-grown c = omega (arith, count_most (p (goal.at.overflow_add-grown c
 pub loop-j-preserved-then-a-j : goal.loop-j-preserved-then-a-j
 loop-j-preserved-then-a-j c =
     let k = c.loop-j.j in
-    (omega arith, omega (arith, count-passed (p (goal.at.loop-j-preserved-then-a-j c).Start) k (grew c.args.i c.args.a c.args.b k (λ e. omega (arith, c.if-j-i.true)) (omega (arith, c.if-a-j.true)))))
+    (omega arith, omega (arith, count-passed (p (goal.at.loop-j-preserved-then-a-j c).Start) k (grew c.args.i c.args.a c.args.b k (λ e. omega arith) (omega arith))))
 
 pub loop-j-preserved-else-a-j : goal.loop-j-preserved-else-a-j
 loop-j-preserved-else-a-j c =
     let k = c.loop-j.j in
-    (omega arith, omega (arith, count_failed (p (goal.at.loop-j-preserved-else-a-j c).Start) k (no_growth c.args.i c.args.a c.args.b k (λ n. omega (arith, c.if-a-j.false)))))
+    (omega arith, omega (arith, count_failed (p (goal.at.loop-j-preserved-else-a-j c).Start) k (no_growth c.args.i c.args.a c.args.b k (λ n. omega arith))))
 
 pub loop-j-preserved : goal.loop-j-preserved
 loop-j-preserved c =
     let k = c.loop-j.j in
-    (omega arith, omega (arith, count_failed (p (goal.at.loop-j-preserved c).Start) k (no_growth c.args.i c.args.a c.args.b k (λ n. absurd (n (omega (arith, c.if-j-i.false)))))))
+    (omega arith, omega (arith, count_failed (p (goal.at.loop-j-preserved c).Start) k (no_growth c.args.i c.args.a c.args.b k (λ n. absurd (n (omega arith))))))
 
 pub returns : goal.returns
 unfolding news

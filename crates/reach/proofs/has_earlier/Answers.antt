@@ -18,7 +18,7 @@ returns-then-l-ne0 c = sym (ap not (every_fails _ _ c.loop-i.i (omega arith) (ne
 
 pub loop-i-preserved : goal.loop-i-preserved
 unfolding has_earlier limit
-loop-i-preserved c = (omega arith, every_more _ _ c.loop-i.invariant.1 (eq-eqb _ _ c.if-l-ne0.false))
+loop-i-preserved c = (omega arith, every_more _ _ c.loop-i.invariant.1 (eq-eqb _ _ (omega arith)))
 
 pub returns : goal.returns
 unfolding has_earlier limit
