@@ -1,6 +1,6 @@
 -- Receipts to rest, item by item, link by link and station by station. Assumes nothing.
 use Prim.Native.Nat.{ℕ, zero, suc, ◌+◌, ◌*◌, ◌-◌, ◌/◌, ◌%◌, ◌≤◌, ◌<◌}
-use mathlib.Core.Path.{◌≡◌, refl, ◌∙◌, sym, ap}
+use mathlib.Core.Path.{◌≡◌, refl, ◌∙◌, subst, sym, ap}
 use mathlib.Core.List.{List, [], ◌∷◌}
 use mathlib.Core.Bool.{Bool, true, false, not, cond, ◌&&◌}
 use native.Mathlib.Omega.{arith}
@@ -105,7 +105,7 @@ module _ (a : List ℕ) (w : test a ≡ true) where
 
     pub phase-most : x.phase ≤ 999999
     phase-most =
-        let p : (station_view x).phase ≤ 999999 = rw e (station-phase vector-range (config_at a) j (parse_station (station_bytes a j)) (test_parts (config_at a) j (station_bytes a j) ((tested a w).station j jl)).1) in
+        let p : (station_view x).phase ≤ 999999 = subst (λ (y : Station vector). y.phase ≤ 999999) (sym e) (station-phase vector-range (config_at a) j (parse_station (station_bytes a j)) (test_parts (config_at a) j (station_bytes a j) ((tested a w).station j jl)).1) in
         p
 
     pub target_is : target_at (state_at a) j ≡ target (station_view x)

@@ -8,16 +8,10 @@ use Rattle.codec.proofs.EveryLaws.{every_none, every_more, every_fails}
 use Rattle.area.specs.Layout.{state_at}
 use Rattle.quiescence.proofs.Laws.{settled, settles, settled_is}
 use Rattle.quiescence.proofs.stations_quiescent.Goals as goal
-use Rattle.quiescence.proofs.stations_quiescent.Goals.{After-is_normal, After-load_station-start, At-loop-i}
+use Rattle.quiescence.proofs.stations_quiescent.Goals.{After-is_normal}
 
 -- station i was looked at
 module _ (c : goal.After-is_normal) where
-  abbrev at : goal.At-loop-i
-  at = c.before.before.before
-
-  abbrev start : goal.After-load_station-start
-  start = c.before.before.before.before
-
   abbrev a : List ℕ
   a = c.args.area.now
 

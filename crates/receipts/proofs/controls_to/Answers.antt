@@ -8,6 +8,7 @@ use Rattle.reset.specs.Receipts.{controls_left}
 use Rattle.area.specs.Layout.{config_at, state_at}
 use Rattle.receipts.proofs.Laws.{long, phase-most, linked_left, apart_left}
 use Rattle.receipts.proofs.controls_to.Goals as goal
+use Rattle.receipts.proofs.controls_to.Goals.{then-area-i-ne0, else-area-i-ne0}
 
 pub controls_left-left-requires : goal.controls_left-left-requires
 controls_left-left-requires c =
@@ -23,8 +24,15 @@ loop-i-preserved c =
     let f : ℕ → ℕ = controls_left (config_at a) (state_at a) g j in
     let m : sum (i + 1) f ≡ sum i f + f i = sum_more i f in (
       omega arith,
-      ⊎_elim (λ w. let e = linked_left a c.requires.0 j c.requires.1 x c.load_station-x.ensures i g (omega arith) w.0.taken in omega (arith, w.1.ensures.0, w.2)) (λ w. let e = apart_left a c.requires.0 j c.requires.1 x c.load_station-x.ensures i g (omega arith) w.0.left in omega (arith, w.1)) c.if-area-i-ne0.branch,
-      ⊎_elim (λ w. omega arith) (λ w. omega arith) c.if-area-i-ne0.branch,
+      elim c.if-area-i-ne0.branch [
+        | then-area-i-ne0 w ↦
+            let e = linked_left a c.requires.0 j c.requires.1 x c.load_station-x.ensures i g (omega arith) w.if-area-i-ne0.true in
+            omega (arith, w.controls_left-left.ensures.0, w.left-is)
+        | else-area-i-ne0 w ↦
+            let e = apart_left a c.requires.0 j c.requires.1 x c.load_station-x.ensures i g (omega arith) w.if-area-i-ne0.false in
+            omega (arith, w.left-is)
+      ],
+      elim c.if-area-i-ne0.branch [ then-area-i-ne0 w ↦ omega arith | else-area-i-ne0 w ↦ omega arith ],
     )
 
 pub returns : goal.returns

@@ -10,6 +10,7 @@ use Rattle.area.proofs.Parts.{link-long}
 use Rattle.area_edit.proofs.PartLaws.{link_part, count_byte}
 use Rattle.receipts.proofs.Laws.{on_link, none_on, under_way_lem, long, count_most}
 use Rattle.receipts.proofs.messages_under_way.Goals as goal
+use Rattle.receipts.proofs.messages_under_way.Goals.{then-area-o-ne0, else-area-o-ne0}
 
 pub messages_on-m-requires : goal.messages_on-m-requires
 messages_on-m-requires c =
@@ -24,8 +25,11 @@ loop-k-preserved c =
     let k = c.loop-k.k in
     let s : sum (k + 1) (on_link a) ≡ sum k (on_link a) + on_link a k = sum_more k (on_link a) in (
       omega arith,
-      ⊎_elim (λ w. omega (arith, rw (link_part a k refl) at w.2.ensures.0, w.3)) (λ w. omega (arith, none_on a k (sym (count_byte a k refl) ∙ w.0.left), w.1)) c.if-area-o-ne0.branch,
-      ⊎_elim (λ w. omega arith) (λ w. omega arith) c.if-area-o-ne0.branch,
+      elim c.if-area-o-ne0.branch [
+        | then-area-o-ne0 w ↦ omega (arith, rw (link_part a k refl) at w.messages_on-m.ensures.0, w.m-is)
+        | else-area-o-ne0 w ↦ omega (arith, none_on a k (sym (count_byte a k refl) ∙ w.if-area-o-ne0.false), w.m-is)
+      ],
+      elim c.if-area-o-ne0.branch [ then-area-o-ne0 w ↦ omega arith | else-area-o-ne0 w ↦ omega arith ],
     )
 
 pub returns : goal.returns

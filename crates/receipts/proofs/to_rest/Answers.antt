@@ -16,11 +16,11 @@ module _ (c : goal.Else-not-well_formed) where
   a = c.args.area.now
 
   passed : test a ≡ true
-  passed = sym c.before.well-formed-2.ensures ∙ c.if-not-well_formed.false
+  passed = sym c.well_formed-2.ensures ∙ c.if-not-well_formed.false
 
 pub returns-then-not-well_formed : goal.returns-then-not-well_formed
 unfolding receipts_on
-returns-then-not-well_formed c = rw (sym c.before.well-formed-2.ensures ∙ c.if-not-well_formed.true)
+returns-then-not-well_formed c = rw (sym c.well_formed-2.ensures ∙ c.if-not-well_formed.true)
 
 pub greatest_target-requires : goal.greatest_target-requires
 greatest_target-requires c =
