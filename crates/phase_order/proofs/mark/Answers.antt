@@ -3,14 +3,12 @@ use mathlib.Core.Path.{◌≡◌, refl, sym, ap, ◌∙◌}
 use mathlib.Core.List.{List}
 use native.Mathlib.Omega.{arith}
 use lib.ListN.{length, get_or, set, length-set}
-use borrow.Author.Rules.{rules}
 use mathlib.Core.Bool.{Bool, true, false, cond}
 use Rattle.record.specs.declared.Record.{Record}
 use Rattle.events.specs.Events.{event_at, station_at, own_at}
 use Rattle.phase_order.specs.Passes.{meets, marked, Table}
 use Rattle.phase_order.proofs.PassLaws.{table-out, table-under, table_more}
-use Rattle.phase_order.proofs.mark.Statement.{statement}
-use Rattle.phase_order.proofs.mark.Tie as tie
+use Rattle.phase_order.proofs.mark.Goals as goal
 
 -- ---- record n, which is e, behind a table
 module _ (from : ℕ) (asked : List ℕ) (e : Record) (own : ℕ) (small : e.station < 8) (table : List ℕ) (a : List ℕ) (n : ℕ)
@@ -46,32 +44,27 @@ module _ (from : ℕ) (asked : List ℕ) (e : Record) (own : ℕ) (small : e.sta
           table_more a from asked w known ((e.phase - from) * 8 + e.station) (omega (arith, phase)) place inside x (omega (arith, o))
           (q ∙ (ap (λ (c : ℕ). c * 2 + cond (meets asked e.counts) 1 0) (sym o) ∙ ap (λ (r : Record). get_or (event_at a n).counts (station_at a n) 0 * 2 + cond (meets asked r.counts) 1 0) (sym is)))
 
-returns : tie.Need-returns
-returns c = let s = c.before.before.before in (refl, λ a n is o w. early _ _ _ _ s.requires _ a n is o w c.if1.true)
-
-returns-2 : tie.Need-returns-2
-returns-2 c =
-    let s = c.before.before.before.before.before.before in
-    (refl, λ a n is o w. behind _ _ _ _ s.requires _ a n is o w c.before.before.before.if1.false c.if2.true)
-
-returns-3 : tie.Need-returns-3
-returns-3 c =
-    let e = c.before.before in
-    let s = e.before.before.before.before.before.before in
-    (refl, λ a n is o w. under _ _ _ _ s.requires _ a n is o w e.before.before.before.if1.false e.if2.false (omega arith))
-
-returns-4 : tie.Need-returns-4
-returns-4 c =
-    let e = c.before.before.before.before.before in
-    let s = e.before.before.before.before.before.before in
-    (simp length-set, λ a n is o w. above _ _ _ _ s.requires _ a n is o w e.before.before.before.if1.false e.if2.false _ (omega arith) (rw (c.flag.ensures, c.before.meets.ensures)))
-
 flag_small : (b : Bool) → cond b 1 0 ≤ 1
 flag_small true = omega arith
 flag_small false = omega arith
 
-pub mark_spec : {M : Type 1} → statement M
-mark_spec =
-    tie.close
-    (tie.spec returns (λ c. search rules) (λ c. search rules) (λ c. search rules) (λ c. search rules) returns-2 (λ c. search rules) (λ c. search rules) returns-3
-    (λ c. search rules) (λ c κs. search rules) (λ c κs. search rules) (λ c. omega (arith, c.flag.ensures, flag_small c.before.meets.result)) (λ c. search rules) (λ c. search rules) (λ c. simp length-set) returns-4)
+pub returns-then-e-from : goal.returns-then-e-from
+returns-then-e-from c = (refl, λ a n is o w. early _ _ _ _ c.requires _ a n is o w c.if-e-from.true)
+
+pub returns-then-table-i : goal.returns-then-table-i
+returns-then-table-i c =
+    (refl, λ a n is o w. behind _ _ _ _ c.requires _ a n is o w c.if-e-from.false c.if-table-i.true)
+
+pub returns-then-wide-table : goal.returns-then-wide-table
+returns-then-wide-table c =
+    (refl, λ a n is o w. under _ _ _ _ c.requires _ a n is o w c.if-e-from.false c.if-table-i.false (omega arith))
+
+pub overflow_add-table : goal.overflow_add-table
+overflow_add-table c = omega (arith, c.flag.ensures, flag_small c.meets.result)
+
+pub shape_of-table : goal.shape_of-table
+shape_of-table c = simp length-set
+
+pub returns : goal.returns
+returns c =
+    (simp length-set, λ a n is o w. above _ _ _ _ c.requires _ a n is o w c.if-e-from.false c.if-table-i.false _ (omega arith) (rw (c.flag.ensures, c.meets.ensures)))

@@ -8,9 +8,7 @@ use lib.Dec.{eqb}
 use lib.ListN.{get_or, set, get_or-replicate}
 use lib.Seq.{get_or-set_same, get_or-set_other}
 use borrow.Author.Tests.{eq-eqb, ne_eqb}
-use borrow.Author.Rules.{rules}
-use Rattle.phase_order.proofs.asked_first.Statement.{statement}
-use Rattle.phase_order.proofs.asked_first.Tie as tie
+use Rattle.phase_order.proofs.asked_first.Goals as goal
 
 one : (s c : ℕ) → s < 8 → (k : ℕ) → k < 8 → get_or (set (0 ∷ 0 ∷ 0 ∷ 0 ∷ 0 ∷ 0 ∷ 0 ∷ 0 ∷ []) s c) k 0 ≡ cond (eqb k s) c 0
 one s c l k h = go (ℕ_discrete k s)
@@ -19,8 +17,5 @@ one s c l k h = go (ℕ_discrete k s)
     go (yes e) = rw (e, eq-eqb s s refl) (get_or-set_same (0 ∷ 0 ∷ 0 ∷ 0 ∷ 0 ∷ 0 ∷ 0 ∷ 0 ∷ []) s c 0 l)
     go (no e) = rw (ne_eqb k s e) (get_or-set_other (0 ∷ 0 ∷ 0 ∷ 0 ∷ 0 ∷ 0 ∷ 0 ∷ 0 ∷ []) s k c 0 e ∙ get_or-replicate 8 k 0 0 h)
 
-returns : tie.Need-returns
+pub returns : goal.returns
 returns c = one _ _ (omega arith)
-
-pub asked_first_spec : {M : Type 1} → statement M
-asked_first_spec = tie.close (tie.spec (λ c. search rules) (λ c. search rules) (λ c. search rules) (λ c. search rules) (λ c. search rules) returns)
