@@ -64,7 +64,7 @@ module _ {a : List ℕ} {E : List Accepted} (H : Holds a E) where
             (λ w. let u : record_station E m ≡ s = rw w at y in
             by_test (ltb o (own_at a m)) (λ h. clash (sym (join (is_of a s f m) _ (t.1 (u, rw w at z)) h) ∙ e))
             (λ h. rw w (omega (arith, ltb-false o (own_at a m) h, rw u at (own_is H m l))))) (λ w. L.greatest x (omega arith) y z);
-        of_one_lem = λ k h. let (y, yl, u, v, w) = L.of_one k h in (y, omega arith, u, v, w);
+        of_one_lem = λ k h. let (y, yl, u, v, w) = L.of_one_lem k h in (y, omega arith, u, v, w);
       }))
 
   last_is : (s f : ℕ) → LastCounts (length E) (record_station E) (phase_of E) (vc E) s f (λ (k : ℕ). get_or (last_timestamp a s f) k 0)
