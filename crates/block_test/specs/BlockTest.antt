@@ -27,7 +27,7 @@ record_known h m r = ltb r.station h.n && (peer_known h.n m r && counts_fit h.n 
 unfoldable pub all_known : Header → List (List ℕ) → List ℕ → Bool
 all_known h m l = every (count_of l) (λ (k : ℕ). record_known h m (parse_record (record_of l k)))
 
--- a well_made_lem block with the right number, full where it is not the last, whose records name what the header has
+-- a well-made block with the right number, full where it is not the last, whose records name what the header has
 unfoldable pub block_fits : Header → List (List ℕ) → ℕ → Bool → List ℕ → Bool
 block_fits h m number last l =
     well_made_entries l && (eqb (stored_number l) number && ((last || eqb (count_of l) 15) && all_known h m l))

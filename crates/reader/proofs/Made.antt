@@ -178,7 +178,7 @@ made_of_archive b r e n m cs =
       moving = o (x.at + 1);
       handing = a.handing;
       whole = rw w (record_length_lem b e x.at l);
-      well_made_lem = rw w (record_well_made b e x.at l);
+      well_made = rw w (record_well_made b e x.at l);
     }
   where
     go : (x : Reader) → MayStand b x.at → Dec (x.at < records b) → x.at < records b

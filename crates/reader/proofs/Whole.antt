@@ -22,14 +22,14 @@ pub record Opened (a : List ℕ) (k : ℕ) : Type 0 where
 pub record Right (a : List ℕ) (k : ℕ) : Type 0 where
   pub in_place : record_at a k ≡ record_of (block_of a (k / 15)) (k % 15)
   pub whole : length (record_at a k) ≡ 32
-  pub well_made_lem : well_made_record (record_at a k) ≡ true
+  pub well_made : well_made_record (record_at a k) ≡ true
 
 pub record_right : (a : List ℕ) (k : ℕ) → Opened a k → Right a k
 record_right a k o =
     record {
       in_place = record_place a o.tested k o.there;
       whole = record_length_lem a o.tested k o.there;
-      well_made_lem = record_well_made a o.tested k o.there;
+      well_made = record_well_made a o.tested k o.there;
     }
 
 -- ---- reading, on any bytes: from place k on, to the last

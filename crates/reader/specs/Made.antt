@@ -57,7 +57,7 @@ pub record OnRecord (b : List ℕ) (r : Reader) : Type 0 where
   pub moving : advanced r ≡ cond (ltb (r.at + 1) (records b)) (goes (r.at + 1)) (stays r.at no_such_record)
   pub handing : handed r ≡ found_record b r.at
   pub whole : length (handed r) ≡ 32
-  pub well_made_lem : well_made_record (handed r) ≡ true
+  pub well_made : well_made_record (handed r) ≡ true
 
 -- on a header alone: there is no record to stand on, and every call is refused by 12
 pub record OnHeader (b : List ℕ) (r : Reader) : Type 0 where

@@ -15,7 +15,7 @@ struct Place {
 }
 
 // The archive was tested, or it is the empty part: the fields are private, so every reader comes from `new`.
-#[derive(Drop)]
+#[derive(Clone, Copy)]
 pub struct Reader<'a> {
     archive: &'a [u8],
     at: usize,
