@@ -1,0 +1,7 @@
+use mathlib.Core.Path.{refl}
+use Rattle.codec.specs.Every.{blank}
+use Rattle.turnover_settings.proofs.block.Goals as goal
+
+pub returns : goal.returns
+unfolding blank
+returns c = (refl, refl)
