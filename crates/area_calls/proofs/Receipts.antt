@@ -16,7 +16,7 @@ use Rattle.rules.specs.Setup.{block_config}
 use Rattle.rules.proofs.Laws.{accepted-well_made}
 use Rattle.area.specs.Layout.{image}
 use Rattle.area.proofs.Exact.{formed-imaged as images, config_back, state_back, image-passes}
-use Rattle.area_calls.specs.Calls.{receiptsLeft, receipts_on}
+use Rattle.area_calls.specs.Calls.{receipts_left, receipts_on}
 use Rattle.area_calls.specs.Sound.{SettlingOn, ExactReceipts}
 use Rattle.area_calls.proofs.Demand3.{step_on-image, log_on-image, setup-accepts}
 use Rattle.area_calls.proofs.Rest.{run-well_formed, run_on-image, rest_on-image}
@@ -31,7 +31,7 @@ receipts_fit (recv i j ∷ qs) r = (refl, receipts_fit qs r)
 
 module _ (c : Config) (s : State vector) (w : well_formed c s ≡ true) where
   -- the call on an image
-  receipts_on-image : receipts_on (image c s) ≡ receiptsLeft (receipts_to_rest c s)
+  receipts_on-image : receipts_on (image c s) ≡ receipts_left (receipts_to_rest c s)
   unfolding receipts_on
   receipts_on-image = let v = images c s w in rw (image-passes c s w, config_back c s v, state_back c s v)
 

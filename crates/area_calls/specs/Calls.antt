@@ -1,7 +1,7 @@
 -- What the calls on a state area answer and leave (document 01, "State area and host"): setup, the four steps, rest, and how many receipts are left until
 -- it (document 02, CR 12). Assumes nothing.
 use Rattle.std.specs.Prelude.{ℕ, List, cond, eqb, length}
-use Rattle.codec.specs.Written.{Written, refused as refusedWith, wrote}
+use Rattle.codec.specs.Written.{Written, refused as refused_with, wrote}
 use Rattle.header.specs.Header.{well_made_header}
 use Rattle.reset.specs.Config.{Config, network_rules}
 use Rattle.reset.specs.Clock.{vector}
@@ -17,9 +17,9 @@ unfoldable pub setup_on : List ℕ → List ℕ → Written
 setup_on block a =
     cond (eqb (length a) 65536)
     (cond (well_made_header block)
-    (cond (network_rules (block_config block)) (wrote (image (block_config block) (initial vector (block_config block)))) (refusedWith 3 a))
-    (refusedWith 1 a))
-    (refusedWith 11 a)
+    (cond (network_rules (block_config block)) (wrote (image (block_config block) (initial vector (block_config block)))) (refused_with 3 a))
+    (refused_with 1 a))
+    (refused_with 11 a)
 
 -- a step's answer, and the area afterwards
 pub record AreaStep : Type 0 where
@@ -44,7 +44,7 @@ rest_on a = cond (test a) (cond (quiescent (config_at a) (state_at a)) RestAnswe
 
 -- receipts to rest: how many are left, or a refusal
 pub data ReceiptsAnswer : Type 0 where
-  receiptsLeft receiptsRefused : ℕ → ReceiptsAnswer
+  receipts_left receipts_refused : ℕ → ReceiptsAnswer
 
 unfoldable pub receipts_on : List ℕ → ReceiptsAnswer
-receipts_on a = cond (test a) (receiptsLeft (receipts_to_rest (config_at a) (state_at a))) (receiptsRefused 2)
+receipts_on a = cond (test a) (receipts_left (receipts_to_rest (config_at a) (state_at a))) (receipts_refused 2)

@@ -14,7 +14,7 @@ use Rattle.causality.specs.HappenedBefore.{accepted}
 use Rattle.causality.specs.Sound.{taken, with_taken, SoundLog}
 use Rattle.causality.specs.Rest.{AllReceived}
 use Rattle.area.specs.Layout.{state_at}
-use Rattle.area_calls.specs.Calls.{setup_on, step_on, yes, rest_on, receiptsLeft, receipts_on}
+use Rattle.area_calls.specs.Calls.{setup_on, step_on, yes, rest_on, receipts_left, receipts_on}
 
 -- the steps of a list with their answers, from an area on
 abbrev pub log_on : List ℕ → List Step → List Answered
@@ -59,7 +59,7 @@ CanReceiveOn a = (i : ℕ) × (j : ℕ) × (is_accepted (step_on (recv i j) a).a
 -- empty, and rest is yes, exactly when there are so many, and each station is then normal in the phase of the greatest target.
 pub record SettlingOn (c : Config) (a : List ℕ) (qs : List Step) : Type 0 where
   pub left : ℕ
-  pub told : receipts_on a ≡ receiptsLeft left
+  pub told : receipts_on a ≡ receipts_left left
   pub at_most : accepted_in (log_on a qs) ≤ left
   pub not_stuck : accepted_in (log_on a qs) < left → CanReceiveOn (run_on a qs)
   pub no_shorter : (CanReceiveOn (run_on a qs) → ⊥) → accepted_in (log_on a qs) ≡ left

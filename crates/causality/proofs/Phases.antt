@@ -12,7 +12,7 @@ use Rattle.reset.specs.Config.{Config, neighbours}
 use Rattle.reset.specs.Receipts.{reqs_taken}
 use Rattle.reset.proofs.ConfigLaws.{Rules}
 use Rattle.reset.specs.Clock.{Clock, vector}
-use Rattle.reset.specs.State.{Item, message, resetReq, resetDone, Station, State, station_at, link_at}
+use Rattle.reset.specs.State.{Item, message, reset_req, reset_done, Station, State, station_at, link_at}
 use Rattle.reset.specs.Steps.{Step, station_of_step, Answer, refused, entry, mode_after, step}
 use Rattle.reset.specs.Network.{initial, log, run}
 use Rattle.reset.specs.Bears.{Taker}
@@ -64,8 +64,8 @@ none_below f (x ∷ l) r (message w g ∷ q) e h =
     let t : map tag_of l ≡ tags r q = cc in
     let p : x.entry.phase ≡ r = ap (λ (z : Tagged vector). z.phase) y in
     rw (ne_eqb x.entry.phase f (λ z. omega arith)) (none_below f l r q t h)
-none_below f (x ∷ l) r (resetReq ∷ q) e h = none_below f (x ∷ l) (suc r) q e (omega arith)
-none_below f (x ∷ l) r (resetDone ∷ q) e h = none_below f (x ∷ l) r q e h
+none_below f (x ∷ l) r (reset_req ∷ q) e h = none_below f (x ∷ l) (suc r) q e (omega arith)
+none_below f (x ∷ l) r (reset_done ∷ q) e h = none_below f (x ∷ l) r q e h
 
 module _ (c : Config) (u : Rules c) (ps : List Step) where
   pub none_under_way : (f : ℕ) → AllLeft c.n f (log c (initial vector c) ps) → (a b : ℕ)

@@ -3,7 +3,7 @@ use Rattle.std.specs.Prelude.{ℕ, ◌<◌, ◌≡◌, ◌↔◌, List, [], ◌�
 use Rattle.clock.specs.Timestamp.{Less}
 use Rattle.reset.specs.Config.{Config, well_made, network_rules}
 use Rattle.reset.specs.Clock.{vector}
-use Rattle.reset.specs.State.{Item, message, resetReq, resetDone, State, link_at}
+use Rattle.reset.specs.State.{Item, message, reset_req, reset_done, State, link_at}
 use Rattle.reset.specs.Steps.{Step, enter, send, recv, start, station_of_step, Answer, refused, entry, mode_after, step}
 use Rattle.reset.specs.Network.{initial, Answered, log}
 use Rattle.causality.specs.Plain.{Message, plain_initial, Told, told, plain_told, plain_after, fed}
@@ -13,8 +13,8 @@ use Rattle.causality.specs.HappenedBefore.{Accepted, accepted, entry_at, phase_o
 abbrev pub first_message : List (Item vector) → List Message
 first_message [] = []
 first_message (message v g ∷ q) = record { counts = v; register = g } ∷ []
-first_message (resetReq ∷ q) = []
-first_message (resetDone ∷ q) = []
+first_message (reset_req ∷ q) = []
+first_message (reset_done ∷ q) = []
 
 abbrev pub taken : State vector → Step → List Message
 taken s (enter i g) = []

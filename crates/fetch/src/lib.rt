@@ -6,12 +6,12 @@ ghost use Rattle.std.specs.Prelude.{◌≡◌, true, false, cond, ℕ, ◌+◌, 
 ghost use Rattle.codec.specs.Splice.{splice};
 ghost use Rattle.entries.specs.Entries.{record_of};
 ghost use Rattle.archive.specs.Archive.{archive_test};
-ghost use Rattle.fetch.specs.Fetch.{holds as holdsRecord, copied, wanted, fetched};
+ghost use Rattle.fetch.specs.Fetch.{holds as holds_record, copied, wanted, fetched};
 
 // A block holds record k.
 fn holds(block: &[u8], k: u64) -> bool
     requires { length block.now ≡ 512 }
-    ensures { result ≡ holdsRecord block.now k }
+    ensures { result ≡ holds_record block.now k }
 {
     let number = codec::get32(block, 4) as u64;
     let count = entries::count_of(block) as u64;
@@ -21,7 +21,7 @@ fn holds(block: &[u8], k: u64) -> bool
 // Record k, where the block holds it, is copied to a place of the copies.
 fn copy_held(block: &[u8], k: u64, at: usize, copies: &mut [u8])
     requires { (length block.now ≡ 512) × (at + 32 ≤ length copies.old) }
-    ensures { copies.new ≡ cond (holdsRecord block.now k) (splice copies.old at (record_of block.now (k % 15))) copies.old }
+    ensures { copies.new ≡ cond (holds_record block.now k) (splice copies.old at (record_of block.now (k % 15))) copies.old }
 {
     if !holds(block, k) {
         return;

@@ -12,7 +12,6 @@ use Rattle.clock.specs.declared.Verdict.{Verdict}
 use Rattle.clock.specs.declared.Verdict.TheVariants.{Before, After, Same, Unordered}
 use Rattle.record.specs.Record.{parse_record, well_made_record}
 use Rattle.verdict.specs.Compare.{verdict_on, verdict_of_bytes}
-use Rattle.verdict.specs.Numbers.{order_number}
 use Rattle.verdict.specs.declared.Compared.{Compared}
 use Rattle.verdict.specs.declared.Compared.TheVariants.{Ordered, Refused}
 use Rattle.entries.specs.declared.EntriesRead.{EntriesRead}
@@ -29,20 +28,20 @@ use Rattle.reset.specs.Network.{quiescent}
 use Rattle.reset.specs.Receipts.{receipts_to_rest}
 use Rattle.reset.specs.Config.{Config}
 use Rattle.reset.specs.Clock.{vector}
-use Rattle.reset.specs.State.{Mode, normal, mute, standBy, State}
+use Rattle.reset.specs.State.{Mode, normal, mute, stand_by, State}
 use Rattle.reset.specs.Steps.{Step, Entry, Answer, refused, entry, mode_after, Outcome, bounded, step}
 use Rattle.reset.proofs.Cases.{clash}
 use Rattle.reset.proofs.ConfigLaws.{shape}
 use Rattle.reset.proofs.NewsLaws.{news_of-others}
 use Rattle.reset.proofs.StepLaws.{within, of_attempt}
 use Rattle.area.specs.Layout.{config_at, state_at, test}
-use Rattle.area_calls.specs.Calls.{AreaStep, imaged, step_on, RestAnswer, yes, no, rest_on, rest_refused, ReceiptsAnswer, receiptsLeft, receiptsRefused, receipts_on}
+use Rattle.area_calls.specs.Calls.{AreaStep, imaged, step_on, RestAnswer, yes, no, rest_on, rest_refused, ReceiptsAnswer, receipts_left, receipts_refused, receipts_on}
 use Rattle.station.specs.Image.{mode_byte, mode_of}
 use Rattle.step_parts.specs.Answers.{mode_code, stepped_of}
 use Rattle.step_parts.proofs.Read.{Passed, passed, made}
 use Rattle.step_parts.specs.declared.answer.Answer.{Answer as CodeAnswer}
 use Rattle.step_parts.specs.declared.answer.Answer.TheVariants.{Refused as NotDone, Entered, InMode}
-use Rattle.host_numbers.specs.Numbers.{Alike, entry_made, tells, modes, counts, step_number, rest_number, receipts_number, verdict_number, block_number, counted_number}
+use Rattle.host_numbers.specs.Numbers.{Alike, entry_made, tells, modes, counts, step_number, rest_number, receipts_number, order_number, verdict_number, block_number, counted_number}
 use Rattle.host_numbers.proofs.Tests.{by_test}
 
 -- the answer x is read back from its number; so one number is one answer
@@ -93,12 +92,12 @@ step_at k = cond (ltb k entry_made) (NotDone k) (cond (ltb k tells) (Entered (k 
 mode_back : (m : Mode) → mode_of (mode_byte m) ≡ m
 mode_back normal = refl
 mode_back mute = refl
-mode_back standBy = refl
+mode_back stand_by = refl
 
 mode_small : (m : Mode) → mode_byte m < 4
 mode_small normal = omega arith
 mode_small mute = omega arith
-mode_small standBy = omega arith
+mode_small stand_by = omega arith
 
 step_back : (o : Answer) → Low o → step_at (step_number o) ≡ (stepped_of o).answer
 step_back (refused k) l = rw (lt-ltb k entry_made (omega arith))
@@ -154,7 +153,7 @@ rests-distinct a b = one rest_number rest_at _ _ (rest_back a) (rest_back b)
 
 -- ---- receipts to rest, which start at 1,000
 abbrev receipts_at : ℕ → ReceiptsAnswer
-receipts_at k = cond (ltb k tells) (receiptsRefused k) (receiptsLeft (k - tells))
+receipts_at k = cond (ltb k tells) (receipts_refused k) (receipts_left (k - tells))
 
 receipts_back : (a : List ℕ) → Back receipts_number receipts_at (receipts_on a)
 unfolding receipts_on

@@ -1,6 +1,7 @@
 -- The number that a host's call returns for each answer. A refusal is its own number; the others start at 100 or 1,000. Assumes nothing.
 use Rattle.std.specs.Prelude.{◌≡◌, ℕ, ◌+◌, ◌*◌, Bool, true, false}
-use Rattle.verdict.specs.Numbers.{order_number}
+use Rattle.clock.specs.declared.Verdict.{Verdict}
+use Rattle.clock.specs.declared.Verdict.TheVariants.{Before, After, Same, Unordered}
 use Rattle.verdict.specs.declared.Compared.{Compared}
 use Rattle.verdict.specs.declared.Compared.TheVariants.{Ordered, Refused}
 use Rattle.entries.specs.declared.EntriesRead.{EntriesRead}
@@ -8,7 +9,7 @@ use Rattle.entries.specs.declared.EntriesRead.TheVariants.{Block, Refused as NoB
 use Rattle.archive.specs.declared.Counted.{Counted}
 use Rattle.archive.specs.declared.Counted.TheVariants.{Count, Refused as NotCounted}
 use Rattle.reset.specs.Steps.{Answer, refused, entry, mode_after}
-use Rattle.area_calls.specs.Calls.{RestAnswer, yes, no, rest_refused, ReceiptsAnswer, receiptsLeft, receiptsRefused}
+use Rattle.area_calls.specs.Calls.{RestAnswer, yes, no, rest_refused, ReceiptsAnswer, receipts_left, receipts_refused}
 use Rattle.station.specs.Image.{mode_byte}
 use Rattle.station.specs.View.{mode_view}
 use Rattle.step_parts.specs.Answers.{stepped_of}
@@ -68,10 +69,16 @@ rest_number (rest_refused k) = k
 
 -- receipts to rest: 1,000 + how many are left
 abbrev pub receipts_number : ReceiptsAnswer → ℕ
-receipts_number (receiptsLeft k) = tells + k
-receipts_number (receiptsRefused k) = k
+receipts_number (receipts_left k) = tells + k
+receipts_number (receipts_refused k) = k
 
--- a verdict, by its own number
+-- a verdict: 100 before, 101 after, 102 same, 103 unordered
+abbrev pub order_number : Verdict → ℕ
+order_number Before = 100
+order_number After = 101
+order_number Same = 102
+order_number Unordered = 103
+
 abbrev pub verdict_number : Compared → ℕ
 verdict_number (Ordered v) = order_number v
 verdict_number (Refused k) = k
@@ -81,7 +88,7 @@ abbrev pub block_number : EntriesRead → ℕ
 block_number (Block n k) = tells + (counts * n + k)
 block_number (NoBlock k) = k
 
--- how many records an archive has, how many an unordered list, how many blocks were fetched for a sheet: 1,000 + the count
+-- how many records an archive has, and how many an unordered list: 1,000 + the count
 abbrev pub counted_number : Counted → ℕ
 counted_number (Count n) = tells + n
 counted_number (NotCounted k) = k

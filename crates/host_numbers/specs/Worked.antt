@@ -2,7 +2,7 @@
 use Rattle.std.specs.Prelude.{ℕ, ◌≡◌, refl, []}
 use Rattle.clock.specs.declared.Verdict.TheVariants.{Before, After, Same, Unordered}
 use Rattle.verdict.specs.declared.Compared.TheVariants.{Ordered, Refused}
-use Rattle.reset.specs.State.{normal, mute, standBy}
+use Rattle.reset.specs.State.{normal, mute, stand_by}
 use Rattle.reset.specs.Steps.{Entry, refused, entry, mode_after}
 use Rattle.area_calls.specs.Calls.{yes, no, rest_refused}
 use Rattle.host_numbers.specs.Numbers.{step_number, rest_number, verdict_number}
@@ -18,7 +18,7 @@ pub record Worked : Type 0 where
   -- receipts with their news
   pub entries : (step_number (entry (receipt_with 0)) ≡ 100) × (step_number (entry (receipt_with 1)) ≡ 101) × (step_number (entry (receipt_with 7)) ≡ 107)
   pub steps : (step_number (refused 7) ≡ 7) × (step_number (mode_after 1 normal 0) ≡ 1000) × (step_number (mode_after 1 mute 0) ≡ 1001)
-      × (step_number (mode_after 1 standBy 3) ≡ 1014) × (step_number (mode_after 1 normal 999999) ≡ 4000996)
+      × (step_number (mode_after 1 stand_by 3) ≡ 1014) × (step_number (mode_after 1 normal 999999) ≡ 4000996)
 
 pub worked : Worked
 worked = record { rests = (refl, refl, refl); verdicts = (refl, refl, refl, refl, refl); entries = (refl, refl, refl); steps = (refl, refl, refl, refl, refl) }

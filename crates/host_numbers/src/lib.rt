@@ -6,10 +6,11 @@ ghost use Rattle.codec.specs.Splice.{splice};
 ghost use Rattle.header.specs.Header.{table_at, parse_header};
 ghost use Rattle.quiescence.specs.View.{rest_view};
 ghost use Rattle.receipts.specs.View.{receipts_view};
-ghost use Rattle.host_numbers.specs.Numbers.{fields_length, greatest, block_number, rest_number, receipts_number, verdict_number, counted_number, code_number, is_entry};
+ghost use Rattle.host_numbers.specs.Numbers.{fields_length, greatest, block_number, rest_number, receipts_number, order_number, verdict_number, counted_number, code_number, is_entry};
 ghost use Rattle.host_numbers.specs.Headers.{fields_fit, header_given, field_bytes};
 
 use archive::Counted;
+use clock::Verdict;
 use entries::EntriesRead;
 use header::Header;
 use quiescence::RestAnswer;
@@ -28,8 +29,8 @@ pub const MALFORMED: u64 = 1;
 
 pub const AREA_LENGTH: u64 = 11;
 
-// Answers that are no refusal: done, of calls that only write; an entry, with the news added; rest; and from TOLD on an answer tells numbers, a mode
-// beside MODES times a phase, or a count beside COUNTS times a block's number.
+// Answers that are no refusal: done, of calls that only write; an entry, with the news added; rest; a verdict; and from TOLD on an answer tells numbers,
+// a mode beside MODES times a phase, or a count beside COUNTS times a block's number.
 pub const DONE: u64 = 0;
 
 pub const ENTRY: u64 = 100;
@@ -37,6 +38,14 @@ pub const ENTRY: u64 = 100;
 pub const REST_YES: u64 = 100;
 
 pub const REST_NO: u64 = 101;
+
+pub const VERDICT_BEFORE: u64 = 100;
+
+pub const VERDICT_AFTER: u64 = 101;
+
+pub const VERDICT_SAME: u64 = 102;
+
+pub const VERDICT_UNORDERED: u64 = 103;
 
 pub const TOLD: u64 = 1000;
 
@@ -91,11 +100,22 @@ pub fn receipts_number(answer: ReceiptsAnswer) -> u64
     }
 }
 
+fn order_number(v: Verdict) -> u64
+    ensures { result ≡ order_number v }
+{
+    match v {
+        Verdict::Before => VERDICT_BEFORE,
+        Verdict::After => VERDICT_AFTER,
+        Verdict::Same => VERDICT_SAME,
+        Verdict::Unordered => VERDICT_UNORDERED,
+    }
+}
+
 pub fn verdict_number(answer: Compared) -> u64
     ensures { result ≡ verdict_number answer }
 {
     match answer {
-        Compared::Ordered(v) => verdict::number(v) as u64,
+        Compared::Ordered(v) => order_number(v),
         Compared::Refused(k) => k as u64,
     }
 }

@@ -23,7 +23,7 @@ use Rattle.reset.specs.Reach.{limit, linked}
 use Rattle.reset.specs.Config.{Config, is_station, neighbours, places, well_made}
 use Rattle.reset.proofs.ConfigLaws.{shape, linked-small}
 use Rattle.reset.specs.Clock.{vector, count_fits, timestamp_fits}
-use Rattle.reset.specs.State.{Item, message, resetReq, resetDone}
+use Rattle.reset.specs.State.{Item, message, reset_req, reset_done}
 use Rattle.reset.specs.WellFormed.{item_fits, item_fits_at, link_fits}
 use Rattle.link.specs.Image.{Queue, item_of, image_item, parse_item, item_test, image_link, item_at, parse_link, items_test, link_test, sized, RangedItem, RangedLink}
 
@@ -31,8 +31,8 @@ use Rattle.link.specs.Image.{Queue, item_of, image_item, parse_item, item_test, 
 pub item-length : (x : Item vector) → length (image_item x) ≡ 21
 unfolding image_item
 item-length (message v g) = refl
-item-length resetReq = omega (arith, blank-length 20)
-item-length resetDone = omega (arith, blank-length 20)
+item-length reset_req = omega (arith, blank-length 20)
+item-length reset_done = omega (arith, blank-length 20)
 
 -- bytes that pass the test, by their kind
 data Passed (c : Config) (l : List ℕ) : Type 0 where
@@ -55,11 +55,11 @@ parse_message : (l : List ℕ) → get_or l 0 0 ≡ 1 → parse_item l ≡ messa
 unfolding parse_item item_of
 parse_message l e = rw e
 
-parse_req : (l : List ℕ) → get_or l 0 0 ≡ 2 → parse_item l ≡ resetReq
+parse_req : (l : List ℕ) → get_or l 0 0 ≡ 2 → parse_item l ≡ reset_req
 unfolding parse_item item_of
 parse_req l e = rw e
 
-parse_done : (l : List ℕ) → get_or l 0 0 ≡ 3 → parse_item l ≡ resetDone
+parse_done : (l : List ℕ) → get_or l 0 0 ≡ 3 → parse_item l ≡ reset_done
 unfolding parse_item item_of
 parse_done l e = rw e
 
@@ -95,8 +95,8 @@ message-register v g r = has_num 4 g (has_more (nums_of 2 8 v) (has_last (1 ∷ 
 pub item_parse_image : (x : Item vector) → RangedItem x → parse_item (image_item x) ≡ x
 item_parse_image (message v g) r =
     rw (parse_message (image_item (message v g)) (unfold image_item in refl), message-counts v g r, message-register v g r)
-item_parse_image resetReq r = parse_req (image_item resetReq) (unfold image_item in refl)
-item_parse_image resetDone r = parse_done (image_item resetDone) (unfold image_item in refl)
+item_parse_image reset_req r = parse_req (image_item reset_req) (unfold image_item in refl)
+item_parse_image reset_done r = parse_done (image_item reset_done) (unfold image_item in refl)
 
 -- what a writer must write, by the kind
 pub control-image : (k g : ℕ) (v : List ℕ) → (eqb k 2 || eqb k 3) ≡ true → image_item (item_of k g v) ≡ (k ∷ []) ++ bytes_of 4 0 ++ nums_of 2 8 []
@@ -104,7 +104,7 @@ unfolding image_item item_of blank
 control-image k g v h = go (eqb k 2) refl (eqb k 3) refl h
   where
     go : (p : Bool) → eqb k 2 ≡ p → (q : Bool) → eqb k 3 ≡ q → (p || q) ≡ true
-        → image_item (cond p resetReq (cond q resetDone (message v g))) ≡ (k ∷ []) ++ bytes_of 4 0 ++ nums_of 2 8 []
+        → image_item (cond p reset_req (cond q reset_done (message v g))) ≡ (k ∷ []) ++ bytes_of 4 0 ++ nums_of 2 8 []
     go true e q f h = rw (eqb-true k 2 e)
     go false e true f h = rw (eqb-true k 3 f)
     go false e false f h = absurd (true≢false (sym h))
@@ -113,7 +113,7 @@ pub message-image : (k g : ℕ) (v : List ℕ) → (eqb k 2 || eqb k 3) ≡ fals
 unfolding image_item item_of
 message-image k g v h = go (eqb k 2) (eqb k 3) h
   where
-    go : (p q : Bool) → (p || q) ≡ false → image_item (cond p resetReq (cond q resetDone (message v g))) ≡ (1 ∷ []) ++ bytes_of 4 g ++ nums_of 2 8 v
+    go : (p q : Bool) → (p || q) ≡ false → image_item (cond p reset_req (cond q reset_done (message v g))) ≡ (1 ∷ []) ++ bytes_of 4 g ++ nums_of 2 8 v
     go true q h = absurd (true≢false h)
     go false true h = absurd (true≢false h)
     go false false h = refl
@@ -123,7 +123,7 @@ pub item_ranged : (l : List ℕ) → AreBytes l → RangedItem (parse_item l)
 unfolding parse_item item_of
 item_ranged l b = go (eqb (get_or l 0 0) 2) (eqb (get_or l 0 0) 3)
   where
-    go : (p q : Bool) → RangedItem (cond p resetReq (cond q resetDone (message (nums_at 2 8 l 5) (num_at 4 l 1))))
+    go : (p q : Bool) → RangedItem (cond p reset_req (cond q reset_done (message (nums_at 2 8 l 5) (num_at 4 l 1))))
     go true q = tt
     go false true = tt
     go false false = (refl, of_below 65536 (nums_at 2 8 l 5) (omega arith) (nums_below 2 8 l 5 b), num_below 4 l 1 b)
@@ -141,8 +141,8 @@ pub item-passes : (c : Config) (x : Item vector) → RangedItem x → item_fits 
 unfolding item_test
 item-passes c (message v g) r h =
     rw (message-counts v g r) (unfold image_item in (both (timestamp_fits c c.t v) _ h).0)
-item-passes c resetReq r h = unfold image_item in zeros-blank 20
-item-passes c resetDone r h = unfold image_item in zeros-blank 20
+item-passes c reset_req r h = unfold image_item in zeros-blank 20
+item-passes c reset_done r h = unfold image_item in zeros-blank 20
 
 -- ---- a queue
 pub link-length : (q : Queue) → length (image_link q) ≡ 715
@@ -163,15 +163,15 @@ pub link_parse_image : (q : Queue) → RangedLink q → parse_link (image_link q
 unfolding parse_link image_link
 link_parse_image q r =
     let m = r.most in
-    parse_image image_item 21 item-length 714 parse_item q resetReq (omega arith) (λ k h. item_parse_image (get_or q k resetReq) (r.items k h))
+    parse_image image_item 21 item-length 714 parse_item q reset_req (omega arith) (λ k h. item_parse_image (get_or q k reset_req) (r.items k h))
 
 pub parse_count : (l : List ℕ) → length (parse_link l) ≡ get_or l 0 0
 unfolding parse_link
 parse_count = queue.parse_count 21 parse_item
 
-pub parse_item_lem : (l : List ℕ) (k : ℕ) → k < get_or l 0 0 → get_or (parse_link l) k resetReq ≡ item_at l k
+pub parse_item_lem : (l : List ℕ) (k : ℕ) → k < get_or l 0 0 → get_or (parse_link l) k reset_req ≡ item_at l k
 unfolding parse_link item_at
-parse_item_lem l k = queue.parse_item_lem 21 parse_item l k resetReq
+parse_item_lem l k = queue.parse_item_lem 21 parse_item l k reset_req
 
 -- ---- what passes the test
 -- the items, of a configuration by n and t alone, and the zeros behind them
@@ -259,8 +259,8 @@ item_in_range c h (message v g) f =
     let p = both (timestamp_fits c c.t v) _ f in
     let r = counts_ranged c h v p.0 in
     (r.0, r.1, omega (arith, leb-true g 4294967295 p.1))
-item_in_range c h resetReq f = tt
-item_in_range c h resetDone f = tt
+item_in_range c h reset_req f = tt
+item_in_range c h reset_done f = tt
 
 module _ (c : Config) (h : well_made c ≡ true) (i j : ℕ) (q : Queue) (f : link_fits c i j q ≡ true) where
   fit : (length q ≤ places c i j) × (every (length q) (item_fits_at c q) ≡ true)
@@ -271,7 +271,7 @@ module _ (c : Config) (h : well_made c ≡ true) (i j : ℕ) (q : Queue) (f : li
   fits_ranged =
       record {
         most = omega (arith, fit.0, places_most c h i j);
-        items = λ (k : ℕ) (s : k < length q). item_in_range c h (get_or q k resetReq) (every_at (length q) (item_fits_at c q) k fit.1 s);
+        items = λ (k : ℕ) (s : k < length q). item_in_range c h (get_or q k reset_req) (every_at (length q) (item_fits_at c q) k fit.1 s);
       }
 
   -- the image of a queue in range is accepted
@@ -283,5 +283,5 @@ module _ (c : Config) (h : well_made c ≡ true) (i j : ℕ) (q : Queue) (f : li
       join (leb n (places c i j) && every n (λ (k : ℕ). item_test c (place_at 21 (image_link q) k))) _
       (join (leb n (places c i j)) _ (le-leb _ _ fit.0)
       (every_of n _
-      (λ (k : ℕ) (g : k < n). rw (queue_place image_item 21 item-length 714 q k resetReq (omega arith) g) (item-passes c (get_or q k resetReq) (fits_ranged.items k g) (every_at n (item_fits_at c q) k fit.1 g)))))
+      (λ (k : ℕ) (g : k < n). rw (queue_place image_item 21 item-length 714 q k reset_req (omega arith) g) (item-passes c (get_or q k reset_req) (fits_ranged.items k g) (every_at n (item_fits_at c q) k fit.1 g)))))
       (rw (queue-behind image_item 21 item-length 714 q (omega arith)) (zeros-blank (714 - n * 21)))

@@ -5,7 +5,7 @@ use Rattle.codec.specs.Every.{blank, all_zero}
 use Rattle.queue.specs.Queue.{image_queue, place_at, parse_queue, items_pass, behind}
 use Rattle.reset.specs.Config.{Config, places}
 use Rattle.reset.specs.Clock.{vector, timestamp_fits}
-use Rattle.reset.specs.State.{Item, message, resetReq, resetDone}
+use Rattle.reset.specs.State.{Item, message, reset_req, reset_done}
 use Rattle.link.specs.declared.Item as declared
 
 -- ---- sizes in bytes: of an item, of all places of a link, and of a link, whose first byte is the count of its items
@@ -24,7 +24,7 @@ link_size = 715
 -- ---- an item
 -- by its kind, its register number and its counts: kind 2 is reset_req, 3 reset_done, any other a message
 unfoldable pub item_of : ℕ → ℕ → List ℕ → Item vector
-item_of k g v = cond (eqb k 2) resetReq (cond (eqb k 3) resetDone (message v g))
+item_of k g v = cond (eqb k 2) reset_req (cond (eqb k 3) reset_done (message v g))
 
 -- what the struct stands for
 abbrev pub item_view : declared.Item → Item vector
@@ -33,8 +33,8 @@ item_view x = item_of x.kind x.register x.counts
 -- its 21 bytes: kind, register number, eight counts; of a control item all but the kind is 0
 unfoldable pub image_item : Item vector → List ℕ
 image_item (message v g) = (1 ∷ []) ++ bytes_of 4 g ++ nums_of 2 8 v
-image_item resetReq = (2 ∷ []) ++ blank 20
-image_item resetDone = (3 ∷ []) ++ blank 20
+image_item reset_req = (2 ∷ []) ++ blank 20
+image_item reset_done = (3 ∷ []) ++ blank 20
 
 -- the item that 21 bytes stand for
 unfoldable pub parse_item : List ℕ → Item vector
@@ -80,10 +80,10 @@ sized n t = record { n = n; t = t; allowances = []; limits = [] }
 -- an item whose fields fit their bytes
 abbrev pub RangedItem : Item vector → Type 0
 RangedItem (message v g) = (length v ≡ 8) × ((k : ℕ) → get_or v k 0 < 65536) × (g < 4294967296)
-RangedItem resetReq = Unit
-RangedItem resetDone = Unit
+RangedItem reset_req = Unit
+RangedItem reset_done = Unit
 
 -- a queue that fits the places, of such items
 pub record RangedLink (q : Queue) : Type 0 where
   pub most : length q ≤ most_items
-  pub items : (k : ℕ) → k < length q → RangedItem (get_or q k resetReq)
+  pub items : (k : ℕ) → k < length q → RangedItem (get_or q k reset_req)

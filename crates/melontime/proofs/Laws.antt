@@ -9,7 +9,7 @@ use Rattle.codec.specs.Splice.{splice}
 use Rattle.codec.proofs.SpliceLaws.{splice_all}
 use Rattle.record.specs.Record.{image_record}
 use Rattle.record.proofs.Laws.{image-length}
-use Rattle.reset.specs.State.{normal, mute, standBy}
+use Rattle.reset.specs.State.{normal, mute, stand_by}
 use Rattle.reset.specs.Steps.{Step, Answer, refused, entry, mode_after}
 use Rattle.step_parts.specs.Answers.{stepped_of}
 use Rattle.step_parts.specs.declared.answer.Stepped.{Stepped}
@@ -23,7 +23,7 @@ numbered (refused k) = refl
 numbered (entry e) = refl
 numbered (mode_after i normal p) = refl
 numbered (mode_after i mute p) = refl
-numbered (mode_after i standBy p) = refl
+numbered (mode_after i stand_by p) = refl
 
 recorded : (d : List ℕ) (o : Answer) → event_after d (stepped_of o) ≡ record_after d o
 recorded d (refused k) = refl

@@ -7,7 +7,7 @@ use mathlib.Core.Bool.{Bool, true, false, cond, ◌||◌}
 use lib.Dec.{eqb, ltb}
 use lib.ListN.{length}
 use Rattle.codec.specs.Num.{AreBytes}
-use Rattle.codec.specs.Written.{refused as refusedWith, wrote}
+use Rattle.codec.specs.Written.{refused as refused_with, wrote}
 use Rattle.header.specs.Header.{header_fits, well_made_header, write_header}
 use Rattle.header.specs.declared.Header.{Header}
 use Rattle.entries.specs.Entries.{well_made_entries, count_of, entries_fit, write_entries, read_record}
@@ -32,14 +32,14 @@ use Rattle.host_numbers.proofs.Tests.{by_test}
 
 -- ---- over the tests that refuse
 -- a refusal leaves the buffer; what was written was not refused
-kept : {d : List ℕ} {k : ℕ} → LeavesRefused d (refusedWith k d)
+kept : {d : List ℕ} {k : ℕ} → LeavesRefused d (refused_with k d)
 kept h = refl
 
 done : {d x : List ℕ} → LeavesRefused d (wrote x)
 done h = absurd (h refl)
 
 -- a buffer of that length at least
-roomy : (d : List ℕ) (n k : ℕ) (x : List ℕ) → LeavesRefused d (cond (ltb (length d) n) (refusedWith k d) (wrote x))
+roomy : (d : List ℕ) (n k : ℕ) (x : List ℕ) → LeavesRefused d (cond (ltb (length d) n) (refused_with k d) (wrote x))
 roomy d n k x = by_test (LeavesRefused d) (ltb (length d) n) kept done
 
 -- ---- the steps

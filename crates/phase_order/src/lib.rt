@@ -7,8 +7,8 @@ ghost use Rattle.std.specs.Prelude.{◌≡◌, List, true, false, cond, ℕ, ◌
 ghost use Rattle.record.specs.declared.Record.{Record as Event};
 ghost use Rattle.archive.specs.Archive.{archive_test, records as records_of};
 ghost use Rattle.events.specs.Events.{event_at, station_at, own_at};
-ghost use Rattle.phase_order.specs.PhaseOrder.{precedes as precedesIn, verdict_between};
-ghost use Rattle.phase_order.specs.Passes.{meets as meetsAsked, Table, NoneMeets, Reaches};
+ghost use Rattle.phase_order.specs.PhaseOrder.{precedes as precedes_in, verdict_between};
+ghost use Rattle.phase_order.specs.Passes.{meets as meets_asked, Table, NoneMeets, Reaches};
 ghost use Rattle.phase_order.specs.ByNumber.{order_of};
 
 use clock::Verdict;
@@ -35,7 +35,7 @@ fn at_least(asked: u16, count: u16) -> bool
 
 // Some count is.
 fn meets(asked: [u16; 8], counts: [u16; 8]) -> bool
-    ensures { result ≡ meetsAsked asked counts }
+    ensures { result ≡ meets_asked asked counts }
 {
     let mut met = false;
     let mut k = 0;
@@ -101,7 +101,7 @@ fn lasts(a: &[u8], from: u32, asked: [u16; 8], table: &mut [u32])
 // The lesser of a phase and that of a record of a station that is not reached, from `from` on, which knows one that is.
 fn nearer(best: u32, from: u32, reached: [u16; 8], e: Record) -> u32
     requires { (e.station < 8) × (from ≤ best) }
-    ensures { (from ≤ result) × (result ≤ best) × (from ≤ e.phase → e.phase < result → get_or reached e.station 0 ≡ 0 → meetsAsked reached e.counts ≡ false) }
+    ensures { (from ≤ result) × (result ≤ best) × (from ≤ e.phase → e.phase < result → get_or reached e.station 0 ≡ 0 → meets_asked reached e.counts ≡ false) }
 {
     let f = e.phase;
     if f < from {
@@ -246,7 +246,7 @@ fn spread_on(
 // of a run a station joins in the first phase of each look; where none does, the looks grow wider.
 fn reaches(a: &[u8], x: Record, y: Record, table: &mut [u32]) -> bool
     requires { (archive_test a.now ≡ true) × (x.station < 8) × (1 ≤ get_or x.counts x.station 0) × (x.phase < y.phase) × (8 ≤ length table.old) }
-    ensures { result ≡ precedesIn a.now x y }
+    ensures { result ≡ precedes_in a.now x y }
 {
     let until = y.phase;
     let counts = y.counts;
@@ -272,7 +272,7 @@ fn reaches(a: &[u8], x: Record, y: Record, table: &mut [u32]) -> bool
 
 fn precedes(a: &[u8], x: Record, y: Record) -> bool
     requires { (archive_test a.now ≡ true) × (x.station < 8) × (1 ≤ get_or x.counts x.station 0) × (x.phase < y.phase) }
-    ensures { result ≡ precedesIn a.now x y }
+    ensures { result ≡ precedes_in a.now x y }
 {
     let mut table = [0u32; MARKS];
     reaches(a, x, y, &mut table)

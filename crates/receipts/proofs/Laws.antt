@@ -20,7 +20,7 @@ use Rattle.header.proofs.Laws.{header-small, table_at_lem}
 use Rattle.reset.specs.Reach.{limit, linked}
 use Rattle.reset.specs.Config.{neighbours, places}
 use Rattle.reset.specs.Clock.{vector}
-use Rattle.reset.specs.State.{Item, message, resetReq, resetDone, Station, State, station_at}
+use Rattle.reset.specs.State.{Item, message, reset_req, reset_done, Station, State, station_at}
 use Rattle.reset.specs.Receipts.{bit, target, greatest_target, messages, under_way, controls_taken, controls_left, receipts_to_rest}
 use Rattle.reset.proofs.ClockRange.{vector-range}
 use Rattle.reset.proofs.Flow.{messages-append}
@@ -54,7 +54,7 @@ pub messages_at_is : (l : List ℕ) (k : ℕ) → messages_at l k ≡ bit (not (
 unfolding item_at parse_item item_of
 messages_at_is l k = rw (get_or-take 21 (drop (1 + k * 21) l) 0 0 (omega arith), get_or-drop, add-zero (1 + k * 21)) (go (eqb (get_or l (1 + k * 21) 0) 2) (eqb (get_or l (1 + k * 21) 0) 3) _ _)
   where
-    go : (p q : Bool) (v : List ℕ) (g : ℕ) → messages {K = vector} (cond p resetReq (cond q resetDone (message v g)) ∷ []) ≡ bit (not p && not q)
+    go : (p q : Bool) (v : List ℕ) (g : ℕ) → messages {K = vector} (cond p reset_req (cond q reset_done (message v g)) ∷ []) ≡ bit (not p && not q)
     go true q v g = refl
     go false true v g = refl
     go false false v g = refl

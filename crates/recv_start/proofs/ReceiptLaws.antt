@@ -7,9 +7,9 @@ use lib.ListN.{length, get_or}
 use borrow.Author.Tests.{ne_eqb}
 use Rattle.codec.specs.Num.{AreBytes}
 use Rattle.reset.specs.Clock.{vector}
-use Rattle.reset.specs.State.{Item, message, resetReq, resetDone, link_at, set_link}
+use Rattle.reset.specs.State.{Item, message, reset_req, reset_done, link_at, set_link}
 use Rattle.reset.proofs.Views.{none_long, link_set-row}
-use Rattle.link.specs.Image.{Queue, item_at, item_of as itemAs, item_view}
+use Rattle.link.specs.Image.{Queue, item_at, item_of as item_as, item_view}
 use Rattle.link.specs.declared.Item.{Item as CodeItem}
 use Rattle.link.proofs.Laws.{parse_item_lem}
 use Rattle.step_outcomes.proofs.Outcome.{net}
@@ -23,7 +23,7 @@ abbrev pub rest : Queue → Queue
 rest [] = []
 rest (x ∷ q) = q
 
-front : (q : Queue) → 0 < length q → q ≡ get_or q 0 resetReq ∷ rest q
+front : (q : Queue) → 0 < length q → q ≡ get_or q 0 reset_req ∷ rest q
 front [] h = absurd (omega arith)
 front (x ∷ q) h = refl
 
@@ -34,7 +34,7 @@ module _ {a : List ℕ} {i j : ℕ} (k : AtLink a i j) where
   -- the first, and the others
   pub first_is : 0 < get_or (link_bytes a (j * 8 + i)) 0 0 → (x : Item vector) → x ≡ item_at (link_bytes a (j * 8 + i)) 0 → link_at (state_at a) j i ≡ x ∷ rest (link_at (state_at a) j i)
   first_is h x e =
-      let p : get_or (link_at (state_at a) j i) 0 resetReq ≡ x = ap (λ (q : Queue). get_or q 0 resetReq) (link_read a j i k.j_small k.i_small) ∙ parse_item_lem (link_bytes a (j * 8 + i)) 0 h ∙ sym e in
+      let p : get_or (link_at (state_at a) j i) 0 reset_req ≡ x = ap (λ (q : Queue). get_or q 0 reset_req) (link_read a j i k.j_small k.i_small) ∙ parse_item_lem (link_bytes a (j * 8 + i)) 0 h ∙ sym e in
       front (link_at (state_at a) j i) (omega (arith, count_is k.area j i k.j_small k.i_small)) ∙ ap (λ (y : Item vector). y ∷ rest (link_at (state_at a) j i)) p
 
   -- the links out of i are the same without it
@@ -45,14 +45,14 @@ pub held : (a : List ℕ) (i j : ℕ) → AreBytes a → Holds a i j → AtLink 
 held a i j b h = at_link_of (passed a b h.tested) i j h.station h.neighbour
 
 -- ---- an item by its kind
-pub is_req : (x : CodeItem) → x.kind ≡ 2 → item_view x ≡ resetReq
-unfolding itemAs
+pub is_req : (x : CodeItem) → x.kind ≡ 2 → item_view x ≡ reset_req
+unfolding item_as
 is_req x e = rw e
 
-pub is_done : (x : CodeItem) → x.kind ≡ 3 → item_view x ≡ resetDone
-unfolding itemAs
+pub is_done : (x : CodeItem) → x.kind ≡ 3 → item_view x ≡ reset_done
+unfolding item_as
 is_done x e = rw e
 
 pub is_message : (x : CodeItem) → (x.kind ≡ 2 → ⊥) → (x.kind ≡ 3 → ⊥) → item_view x ≡ message x.counts x.register
-unfolding itemAs
+unfolding item_as
 is_message x f g = rw (ne_eqb x.kind 2 f, ne_eqb x.kind 3 g)

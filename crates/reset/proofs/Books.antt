@@ -19,7 +19,7 @@ use Rattle.reset.specs.Config.{Config, neighbours, places, between, network_rule
 use Rattle.reset.specs.Receipts.{target, messages}
 use Rattle.reset.proofs.ConfigLaws.{Rules, not_itself, within-sum}
 use Rattle.reset.specs.Clock.{vector}
-use Rattle.reset.specs.State.{Item, message, resetReq, resetDone, Station, State, station_at, link_at, sent_to}
+use Rattle.reset.specs.State.{Item, message, reset_req, reset_done, Station, State, station_at, link_at, sent_to}
 use Rattle.reset.specs.Steps.{in_bounds}
 use Rattle.reset.proofs.Changes.{Tagged}
 use Rattle.reset.proofs.ClockRange.{AtMost}
@@ -33,8 +33,8 @@ use Rattle.reset.proofs.Cases.{by_test, by_dec, clash}
 abbrev pub Loads : ℕ → List (Item vector) → Type 0
 Loads t [] = Unit {0}
 Loads t (message w g ∷ q) = AtMost t w × Loads t q
-Loads t (resetReq ∷ q) = Loads t q
-Loads t (resetDone ∷ q) = Loads t q
+Loads t (reset_req ∷ q) = Loads t q
+Loads t (reset_done ∷ q) = Loads t q
 
 -- A link of limit l with items q. Its sender is in phase r, and has sent k messages in it; its receiver is in phase p, and has taken f in it. Those taken
 -- and those under way are at most l; at most k, where both are in one phase; none, where the sender is behind. No load has a count above t.
@@ -51,8 +51,8 @@ Carried c a x b y f q = LinkBook c.t (limit c.limits a b) x.phase (sent_to x b) 
 loads-append : (t : ℕ) (q q' : List (Item vector)) → Loads t q → Loads t q' → Loads t (q ++ q')
 loads-append t [] q' h k = k
 loads-append t (message w g ∷ q) q' h k = (h.0, loads-append t q q' h.1 k)
-loads-append t (resetReq ∷ q) q' h k = loads-append t q q' h k
-loads-append t (resetDone ∷ q) q' h k = loads-append t q q' h k
+loads-append t (reset_req ∷ q) q' h k = loads-append t q q' h k
+loads-append t (reset_done ∷ q) q' h k = loads-append t q q' h k
 
 -- more items behind: control items, or a message that the sender has counted, its receiver being in its phase
 pub book_control : (t l r k p f : ℕ) (q q' : List (Item vector)) → messages q' ≡ 0 → Loads t q' → LinkBook t l r k p f q → LinkBook t l r k p f (q ++ q')

@@ -19,8 +19,8 @@ use Rattle.reset.specs.Config.{Config, neighbours, limit_at, allowance_at, netwo
 use Rattle.reset.specs.Receipts.{muted, messages}
 use Rattle.reset.proofs.ConfigLaws.{Rules, neighbour-small}
 use Rattle.reset.specs.Clock.{vector}
-use Rattle.reset.specs.State.{normal, mute, standBy, Item, message, resetReq, resetDone, Station, State, station_at, link_at, req_seen, done_seen, sent_to, set_station, set_link}
-use Rattle.reset.specs.Steps.{every_neighbour, some_neighbour, begun, renewed, woken, begin_reset, renew, wake, Rule, ruleA, ruleB, ruleC, noRule, rule_of, apply, turn_once, turn, entered, sending, may_send, do_send, receiving, do_receive}
+use Rattle.reset.specs.State.{normal, mute, stand_by, Item, message, reset_req, reset_done, Station, State, station_at, link_at, req_seen, done_seen, sent_to, set_station, set_link}
+use Rattle.reset.specs.Steps.{every_neighbour, some_neighbour, begun, renewed, woken, begin_reset, renew, wake, Rule, rule_a, rule_b, rule_c, no_rule, rule_of, apply, turn_once, turn, entered, sending, may_send, do_send, receiving, do_receive}
 use Rattle.reset.proofs.Views.{zeros_at, station-set, station-set_link, station-put_all}
 use Rattle.reset.proofs.TurnLaws.{Tested, rule_tested}
 use Rattle.reset.proofs.Changes.{Tagged}
@@ -45,7 +45,7 @@ module _ (c : Config) (u : Rules c) (i : ℕ) (il : i < c.n) (s : State vector) 
       let x = begun (station_at s i) in
       changed c u i s _ x _ _ (change_puts c u i s _ _ (puts_begin c u i s h v) x (rw (station-put_all, station-set))) w
       (omega arith) (w.counts i (low c u i il)) k.got k.station k.links
-      (λ b h g r. book_control _ _ _ _ _ _ (link_at s i b) (resetReq ∷ []) refl tt r)
+      (λ b h g r. book_control _ _ _ _ _ _ (link_at s i b) (reset_req ∷ []) refl tt r)
 
   -- rule a: no message is left on the links in
   renew-books : (station_at s i).mode ≡ mute → every_neighbour c i (req_seen (station_at s i)) ≡ true → Books c (renew c i s)
@@ -65,7 +65,7 @@ module _ (c : Config) (u : Rules c) (i : ℕ) (il : i < c.n) (s : State vector) 
       (λ b h. let ib = u.both_ways i b h in
       let z = flow-past _ _ _ (link_at s b i) _ _ (rw (every_neighbour_at c u i (req_seen (station_at s i)) q b h) (omega arith)) (v.flow b i ib) in
       record { most = omega arith; one_phase = λ p. omega arith; behind = λ p. omega arith; loads = (k.links b h).loads })
-      (λ b h g r. book_control _ _ _ _ _ _ (link_at s i b) (resetDone ∷ []) refl tt
+      (λ b h g r. book_control _ _ _ _ _ _ (link_at s i b) (reset_done ∷ []) refl tt
       (record {
         most = r.most;
         one_phase = λ p. rw zeros_at (r.behind (omega arith));
@@ -74,7 +74,7 @@ module _ (c : Config) (u : Rules c) (i : ℕ) (il : i < c.n) (s : State vector) 
       }))
 
   -- rule b
-  wake-books : (station_at s i).mode ≡ standBy → every_neighbour c i (done_seen (station_at s i)) ≡ true → Books c (wake i s)
+  wake-books : (station_at s i).mode ≡ stand_by → every_neighbour c i (done_seen (station_at s i)) ≡ true → Books c (wake i s)
   unfolding wake
   wake-books h q =
       let k = w.books i il in
@@ -95,10 +95,10 @@ module _ (c : Config) (u : Rules c) (i : ℕ) (il : i < c.n) (s : State vector) 
       omega (arith, f, w.targets j t.1)
 
   rule_books : (r : Rule) → Tested c i (station_at s i) r → Books c (apply c i s r)
-  rule_books ruleA t = renew-books t.0 t.1
-  rule_books ruleB t = wake-books t.0 t.1
-  rule_books ruleC t = begin_books t.0 (next_phase t.1)
-  rule_books noRule t = w
+  rule_books rule_a t = renew-books t.0 t.1
+  rule_books rule_b t = wake-books t.0 t.1
+  rule_books rule_c t = begin_books t.0 (next_phase t.1)
+  rule_books no_rule t = w
 
   turn_once-books : Books c (turn_once c i s)
   unfolding turn_once

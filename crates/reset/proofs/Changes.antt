@@ -8,7 +8,7 @@ use mathlib.Core.Bool.{true, cond, ◌&&◌}
 use lib.Dec.{eqb}
 use Rattle.reset.specs.Config.{Config, neighbours}
 use Rattle.reset.specs.Clock.{Clock}
-use Rattle.reset.specs.State.{Mode, Item, message, resetReq, resetDone, Station, State, station_at, link_at}
+use Rattle.reset.specs.State.{Mode, Item, message, reset_req, reset_done, Station, State, station_at, link_at}
 use Rattle.reset.specs.Receipts.{reqs_taken}
 use Rattle.reset.specs.Steps.{Step, enter, send, recv, start, Entry, Answer, refused, entry, mode_after}
 
@@ -23,8 +23,8 @@ pub record Tagged (K : Clock) : Type 0 where
 abbrev pub tags : {K : Clock} → ℕ → List (Item K) → List (Tagged K)
 tags r [] = []
 tags r (message w g ∷ q) = record { phase = r; load = w; register = g } ∷ tags r q
-tags r (resetReq ∷ q) = tags (suc r) q
-tags r (resetDone ∷ q) = tags r q
+tags r (reset_req ∷ q) = tags (suc r) q
+tags r (reset_done ∷ q) = tags r q
 
 -- the messages on the link from i to j, the first first
 abbrev pub waiting : {K : Clock} → State K → ℕ → ℕ → List (Tagged K)
@@ -42,8 +42,8 @@ sent_on s a b (start i) = []
 abbrev pub first_with : {K : Clock} → ℕ → List (Item K) → List (Tagged K)
 first_with p [] = []
 first_with p (message w g ∷ q) = record { phase = p; load = w; register = g } ∷ []
-first_with p (resetReq ∷ q) = []
-first_with p (resetDone ∷ q) = []
+first_with p (reset_req ∷ q) = []
+first_with p (reset_done ∷ q) = []
 
 abbrev pub got_on : {K : Clock} → State K → ℕ → ℕ → Step → List (Tagged K)
 got_on s a b (enter i g) = []

@@ -9,7 +9,7 @@ use Rattle.reset.specs.Config.{Config, neighbours}
 use Rattle.reset.proofs.ConfigLaws.{Rules}
 use Rattle.reset.specs.Clock.{Clock}
 use Rattle.reset.specs.State.{State, station_at, req_seen}
-use Rattle.reset.specs.Steps.{some_neighbour, noRule, rule_of, begin_reset, turn, Step, step}
+use Rattle.reset.specs.Steps.{some_neighbour, no_rule, rule_of, begin_reset, turn, Step, step}
 use Rattle.reset.specs.Network.{initial_station, initial, run}
 use Rattle.reset.proofs.Views.{none_at, station-set, station-set-other, station-set_link, station-put_all}
 use Rattle.reset.proofs.TurnLaws.{some_none, no_rule_left, station_turn_other}
@@ -21,12 +21,12 @@ use Rattle.reset.proofs.Cases.{by_dec}
 
 -- no reset rule applies at any station
 abbrev pub Rests : {K : Clock} → Config → State K → Type 0
-Rests c s = (k : ℕ) → k < c.n → rule_of c k (station_at s k) ≡ noRule
+Rests c s = (k : ℕ) → k < c.n → rule_of c k (station_at s k) ≡ no_rule
 
 -- The invariant, and between two steps no reset rule applies.
 pub record Coherent {K : Clock} (c : Config) (s : State K) : Type 0 where
   pub invariant : Invariant c s
-  pub no_rule : Rests c s
+  pub no_rule_lem : Rests c s
 
 -- ---- no rule applies after a step
 module _ {K : Clock} (c : Config) (s : State K) (r : Rests c s) where
@@ -61,10 +61,10 @@ rests-initial K c u k l = rw (initial_station_lem K c k (omega (arith, u.small))
 -- ---- the laws
 module _ {K : Clock} (c : Config) (u : Rules c) where
   pub initial-coherent : Coherent c (initial K c)
-  initial-coherent = record { invariant = initial-invariant K c u; no_rule = rests-initial K c u }
+  initial-coherent = record { invariant = initial-invariant K c u; no_rule_lem = rests-initial K c u }
 
   pub step_coherent : (s : State K) → Coherent c s → (p : Step) → Coherent c (step c s p).after
-  step_coherent s h p = record { invariant = step_keeps c u s h.invariant p; no_rule = rests_step c s h.no_rule p }
+  step_coherent s h p = record { invariant = step_keeps c u s h.invariant p; no_rule_lem = rests_step c s h.no_rule_lem p }
 
   pub run-coherent : (s : State K) → Coherent c s → (ps : List Step) → Coherent c (run c s ps)
   run-coherent s h [] = h

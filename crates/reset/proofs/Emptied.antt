@@ -9,8 +9,8 @@ use Rattle.codec.proofs.SumLaws.{sum-zero}
 use Rattle.reset.specs.Reach.{linked, Path, here, further, Reached}
 use Rattle.reset.specs.Config.{Config, neighbours}
 use Rattle.reset.specs.Clock.{Clock}
-use Rattle.reset.specs.State.{Mode, normal, mute, standBy, State, station_at, link_at, req_seen, done_seen}
-use Rattle.reset.specs.Steps.{every_neighbour, ruleA, ruleB, noRule}
+use Rattle.reset.specs.State.{Mode, normal, mute, stand_by, State, station_at, link_at, req_seen, done_seen}
+use Rattle.reset.specs.Steps.{every_neighbour, rule_a, rule_b, no_rule}
 use Rattle.reset.specs.Network.{links_empty}
 use Rattle.reset.specs.Receipts.{muted, bit, target, greatest_target, messages, under_way, reqs_taken, dones_taken, controls_left, receipts_to_rest}
 use Rattle.reset.proofs.ReachLaws.{every_finds}
@@ -47,15 +47,15 @@ module _ {K : Clock} (c : Config) (u : Rules c) (s : State K) (v : Coherent c s)
   -- ---- no rule applies: a mute station waits for a req, one in stand-by for a done
   awaits_req : (i : ℕ) → i < c.n → (station_at s i).mode ≡ mute → (j : ℕ) × (neighbours c i j ≡ true) × (req_seen (station_at s i) j ≡ false)
   awaits_req i l m =
-      by_test (every_neighbour c i (req_seen (station_at s i))) (λ q. let z : ruleA ≡ noRule = rw (m, q) at (v.no_rule i l) in clash (cc)) (λ q. neighbour_lacks c i _ q)
+      by_test (every_neighbour c i (req_seen (station_at s i))) (λ q. let z : rule_a ≡ no_rule = rw (m, q) at (v.no_rule_lem i l) in clash (cc)) (λ q. neighbour_lacks c i _ q)
 
-  awaits_done : (i : ℕ) → i < c.n → (station_at s i).mode ≡ standBy → (j : ℕ) × (neighbours c i j ≡ true) × (done_seen (station_at s i) j ≡ false)
+  awaits_done : (i : ℕ) → i < c.n → (station_at s i).mode ≡ stand_by → (j : ℕ) × (neighbours c i j ≡ true) × (done_seen (station_at s i) j ≡ false)
   awaits_done i l m =
-      by_test (every_neighbour c i (done_seen (station_at s i))) (λ q. let z : ruleB ≡ noRule = rw (m, q) at (v.no_rule i l) in clash (cc)) (λ q. neighbour_lacks c i _ q)
+      by_test (every_neighbour c i (done_seen (station_at s i))) (λ q. let z : rule_b ≡ no_rule = rw (m, q) at (v.no_rule_lem i l) in clash (cc)) (λ q. neighbour_lacks c i _ q)
 
   -- the req that a mute station waits for is that of one in stand-by, in its phase
   beside_mute : (i j : ℕ) → neighbours c i j ≡ true → (station_at s i).mode ≡ mute → req_seen (station_at s i) j ≡ false
-      → ((station_at s j).mode ≡ standBy) × ((station_at s j).phase ≡ (station_at s i).phase)
+      → ((station_at s j).mode ≡ stand_by) × ((station_at s j).phase ≡ (station_at s i).phase)
   beside_mute i j ij m q = go (station_at s j).mode refl
     where
       ji : neighbours c j i ≡ true
@@ -67,13 +67,13 @@ module _ {K : Clock} (c : Config) (u : Rules c) (s : State K) (v : Coherent c s)
       b : reqs_taken (station_at s j) i ≡ (station_at s i).phase + 1
       b = rw m at (ends i j ij).0
 
-      go : (k : Mode) → (station_at s j).mode ≡ k → ((station_at s j).mode ≡ standBy) × ((station_at s j).phase ≡ (station_at s i).phase)
+      go : (k : Mode) → (station_at s j).mode ≡ k → ((station_at s j).mode ≡ stand_by) × ((station_at s j).phase ≡ (station_at s i).phase)
       go normal d = let f = ap bit (no_req c s u v j i (u.inside i j ij) d ji) in absurd (omega (arith, a, b, f, ap muted d))
       go mute d = absurd (omega (arith, a, b, bit-small (req_seen (station_at s j) i), ap muted d))
-      go standBy d = (d, omega (arith, a, ap muted d))
+      go stand_by d = (d, omega (arith, a, ap muted d))
 
   -- the done that one in stand-by waits for is that of a mute one, in the phase before
-  beside_stand_by : (i j : ℕ) → neighbours c i j ≡ true → (station_at s i).mode ≡ standBy → done_seen (station_at s i) j ≡ false
+  beside_stand_by : (i j : ℕ) → neighbours c i j ≡ true → (station_at s i).mode ≡ stand_by → done_seen (station_at s i) j ≡ false
       → ((station_at s j).mode ≡ mute) × (suc (station_at s j).phase ≡ (station_at s i).phase)
   beside_stand_by i j ij m q = go (station_at s j).mode refl
     where
@@ -86,7 +86,7 @@ module _ {K : Clock} (c : Config) (u : Rules c) (s : State K) (v : Coherent c s)
       go : (k : Mode) → (station_at s j).mode ≡ k → ((station_at s j).mode ≡ mute) × (suc (station_at s j).phase ≡ (station_at s i).phase)
       go normal d = absurd (omega (arith, a, b, ap muted d))
       go mute d = (d, omega (arith, b))
-      go standBy d = absurd (omega (arith, a, b, ap muted d))
+      go stand_by d = absurd (omega (arith, a, b, ap muted d))
 
   -- so below a mute station, which waits for one in stand-by, stands a mute one of the phase before, and so on
   no_mute : (b i : ℕ) → (station_at s i).phase < b → i < c.n → (station_at s i).mode ≡ mute → ⊥
@@ -107,7 +107,7 @@ module _ {K : Clock} (c : Config) (u : Rules c) (s : State K) (v : Coherent c s)
       go : (m : Mode) → (station_at s i).mode ≡ m → (station_at s i).mode ≡ normal
       go normal m = m
       go mute m = absurd (no_mute (suc (station_at s i).phase) i (omega arith) il m)
-      go standBy m =
+      go stand_by m =
           let w = awaits_done i il m in
           let k : ℕ = w.0 in
           absurd (no_mute (suc (station_at s k).phase) k (omega arith) (u.inside i k w.1) (beside_stand_by i k w.1 m w.2).0)

@@ -12,7 +12,7 @@ use Rattle.codec.specs.Every.{every}
 use Rattle.codec.proofs.EveryLaws.{join, every_of}
 use Rattle.reset.specs.Config.{Config, is_station, neighbours, network_rules}
 use Rattle.reset.specs.Clock.{Clock, vector}
-use Rattle.reset.specs.State.{Item, message, resetReq, resetDone, State, link_at}
+use Rattle.reset.specs.State.{Item, message, reset_req, reset_done, State, link_at}
 use Rattle.reset.specs.Steps.{Step, enter, send, recv, start, Answer, refused, entry, mode_after, Outcome, guard, in_bounds, bounded, receive, step}
 use Rattle.reset.specs.Network.{initial, log, run, link_empty, links_empty, stations_quiescent, quiescent}
 use Rattle.reset.specs.Receipts.{greatest_target, receipts_to_rest, Receipts, is_accepted, accepted_in, CanReceive, Settling, ExactReceipts}
@@ -64,8 +64,8 @@ module _ (c : Config) (u : Rules c) (r : network_rules c ≡ true) where
 
     taken : (i j : ℕ) (y : Item vector) (q : List (Item vector)) → Known (receive c i j s (y ∷ q)).answer → is_accepted (receive c i j s (y ∷ q)).answer ≡ true
     taken i j (message w g) q k = met_none _ refl k
-    taken i j resetReq q k = met_none _ refl k
-    taken i j resetDone q k = met_none _ refl k
+    taken i j reset_req q k = met_none _ refl k
+    taken i j reset_done q k = met_none _ refl k
 
     accepts : (i j : ℕ) → neighbours c i j ≡ true → (l : List (Item vector)) → link_at s j i ≡ l → l ≢ [] → is_accepted (step c s (recv i j)).answer ≡ true
     unfolding guard is_station

@@ -14,7 +14,7 @@ use Rattle.codec.proofs.Stride.{upto_at, upto-length}
 use Rattle.reset.specs.Config.{Config, is_station, neighbours, limit_at, allowance_at, places, well_made, network_rules}
 use Rattle.reset.proofs.ConfigLaws.{Rules, rules, station-below, neighbour-small}
 use Rattle.reset.specs.Clock.{Clock, of_station}
-use Rattle.reset.specs.State.{Item, message, resetReq, resetDone, Station, State, station_at, link_at, sent_to}
+use Rattle.reset.specs.State.{Item, message, reset_req, reset_done, Station, State, station_at, link_at, sent_to}
 use Rattle.reset.specs.Steps.{in_bounds, Step, do_enter, sending, do_send, do_receive, do_mark, do_start, step, phase_bounded, count_bounded, link_bounded}
 use Rattle.reset.specs.Network.{initial_station, initial}
 use Rattle.reset.specs.WellFormed.{register_fits, mode_fits, phase_fits, station_fits, item_fits, item_fits_at, link_fits, shape_fits, station_fits_at, link_fits_at, well_formed, step_fits}
@@ -60,7 +60,7 @@ module _ {K : Clock} (c : Config) (i j : ℕ) (q : List (Item K)) where
   unfolding link_fits
   items_of h k = past q k (every_at (length q) (item_fits_at c q) k (both (leb (length q) (places c i j)) _ h).1)
     where
-      past : (q : List (Item K)) (k : ℕ) → (k < length q → item_fits c (get_or q k resetReq) ≡ true) → item_fits c (get_or q k resetReq) ≡ true
+      past : (q : List (Item K)) (k : ℕ) → (k < length q → item_fits c (get_or q k reset_req) ≡ true) → item_fits c (get_or q k reset_req) ≡ true
       past [] k f = refl
       past (x ∷ q) zero f = f (omega arith)
       past (x ∷ q) (suc k) f = past q k (λ l. f (omega arith))
@@ -193,8 +193,8 @@ module _ {K : Clock} (L : ClockRange K) (c : Config) (s : State K) (h : Formed c
         own = λ i g si l b z. formed-enter i si g l b;
         sent = λ i j g si ij m l b z. formed-send i si j ij g z l b;
         received = λ i j w g q si ij e b z. formed-receive i si j ij w g q e b;
-        req = λ i j q si ij e b z. formed_mark i si j ij _ resetReq q e (fits_req L c i _ (parts i si).here j (near i si j ij) ij) b;
-        done = λ i j q si ij e b z. formed_mark i si j ij _ resetDone q e (fits_done L c i _ (parts i si).here j (near i si j ij) ij) b;
+        req = λ i j q si ij e b z. formed_mark i si j ij _ reset_req q e (fits_req L c i _ (parts i si).here j (near i si j ij) ij) b;
+        done = λ i j q si ij e b z. formed_mark i si j ij _ reset_done q e (fits_done L c i _ (parts i si).here j (near i si j ij) ij) b;
         started = λ i si m l b z. formed_start i si b;
       })
 

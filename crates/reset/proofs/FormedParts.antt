@@ -17,8 +17,8 @@ use Rattle.codec.proofs.PutLaws.{put_same, put_other, put_keeps}
 use Rattle.clock.specs.Timestamp.{zeros}
 use Rattle.reset.specs.Config.{Config, is_station, neighbours, limit_at, allowance_at}
 use Rattle.reset.specs.Clock.{Clock}
-use Rattle.reset.specs.State.{Item, resetReq, resetDone, Station, State, none_seen, station_at, link_at, req_seen, done_seen, sent_to, set_station, set_link, put_on, put_linked, put_first, put_on_all}
-use Rattle.reset.specs.Steps.{begun, renewed, woken, begin_reset, renew, wake, Rule, ruleA, ruleB, ruleC, noRule, rule_of, apply, turn_once, turn, entered, sending, receiving, with_req, with_done}
+use Rattle.reset.specs.State.{Item, reset_req, reset_done, Station, State, none_seen, station_at, link_at, req_seen, done_seen, sent_to, set_station, set_link, put_on, put_linked, put_first, put_on_all}
+use Rattle.reset.specs.Steps.{begun, renewed, woken, begin_reset, renew, wake, Rule, rule_a, rule_b, rule_c, no_rule, rule_of, apply, turn_once, turn, entered, sending, receiving, with_req, with_done}
 use Rattle.reset.specs.WellFormed.{mode_fits, phase_fits, own_fits, sent_fits_to, sent_fits, marks_fit_from, marks_fit, station_fits, item_fits, row_long, shape_fits}
 use Rattle.reset.proofs.ClockRange.{ClockRange}
 use Rattle.reset.proofs.Views.{zeros_at, none_at, station-set, station-set-other, link_set-station, station-set_link, link_set_lem, link_set-row, link_set_col}
@@ -179,7 +179,7 @@ shaped_link s i j q il jl h =
 
 -- ---- the items of a link
 abbrev pub ItemsFit : {K : Clock} → Config → List (Item K) → Type 0
-ItemsFit c q = (k : ℕ) → item_fits c (get_or q k resetReq) ≡ true
+ItemsFit c q = (k : ℕ) → item_fits c (get_or q k reset_req) ≡ true
 
 items_more : {K : Clock} (c : Config) (q : List (Item K)) (y : Item K) → ItemsFit c q → item_fits c y ≡ true → ItemsFit c (q ++ (y ∷ []))
 items_more c [] y h e zero = e
@@ -235,14 +235,14 @@ module _ {K : Clock} (L : ClockRange K) (c : Config) (i : ℕ) (il : i < 8) wher
   -- begin and the reset rules
   pub parts_begin : (s : State K) → Parts L c i s → Parts L c i (begin_reset c i s)
   unfolding begin_reset
-  parts_begin s h = parts_all resetReq refl _ (parts_station s _ (fits_begun L c i _ h.here) h)
+  parts_begin s h = parts_all reset_req refl _ (parts_station s _ (fits_begun L c i _ h.here) h)
 
   parts_apply : (s : State K) → Parts L c i s → (r : Rule) → Parts L c i (apply c i s r)
   unfolding renew wake
-  parts_apply s h ruleA = parts_all resetDone refl _ (parts_station s _ (fits_renewed L c i _ h.here) h)
-  parts_apply s h ruleB = parts_station s _ (fits_woken L c i _ h.here) h
-  parts_apply s h ruleC = parts_begin s h
-  parts_apply s h noRule = h
+  parts_apply s h rule_a = parts_all reset_done refl _ (parts_station s _ (fits_renewed L c i _ h.here) h)
+  parts_apply s h rule_b = parts_station s _ (fits_woken L c i _ h.here) h
+  parts_apply s h rule_c = parts_begin s h
+  parts_apply s h no_rule = h
 
   parts_once : (s : State K) → Parts L c i s → Parts L c i (turn_once c i s)
   unfolding turn_once

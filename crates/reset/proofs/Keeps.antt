@@ -15,8 +15,8 @@ use Rattle.reset.specs.Config.{Config, neighbours}
 use Rattle.reset.specs.Receipts.{muted, target, reqs_taken, dones_taken}
 use Rattle.reset.proofs.ConfigLaws.{Rules, neighbour-small}
 use Rattle.reset.specs.Clock.{Clock}
-use Rattle.reset.specs.State.{normal, mute, standBy, Item, resetReq, resetDone, Station, State, station_at, link_at, req_seen, done_seen, set_station, put_on_all, Mode, message, set_link}
-use Rattle.reset.specs.Steps.{every_neighbour, begun, renewed, woken, begin_reset, renew, wake, Rule, ruleA, ruleB, ruleC, noRule, rule_of, apply, turn_once, turn, send, recv, entered, sending, may_send, do_send, receiving, do_receive, with_req, with_done}
+use Rattle.reset.specs.State.{normal, mute, stand_by, Item, reset_req, reset_done, Station, State, station_at, link_at, req_seen, done_seen, set_station, put_on_all, Mode, message, set_link}
+use Rattle.reset.specs.Steps.{every_neighbour, begun, renewed, woken, begin_reset, renew, wake, Rule, rule_a, rule_b, rule_c, no_rule, rule_of, apply, turn_once, turn, send, recv, entered, sending, may_send, do_send, receiving, do_receive, with_req, with_done}
 use Rattle.reset.proofs.Views.{none_at, station-set, station-set-other, link_set-station, station-put_all, link-put_all, link-put_all_far, link-put_all_row, station-set_link, link_set_lem, link_set-row, link_set_col}
 use Rattle.reset.proofs.TurnLaws.{Tested, rule_tested}
 use Rattle.reset.proofs.Changes.{Tagged, tags, waiting, sent_on, first_with, got_on}
@@ -50,10 +50,10 @@ module _ {K : Clock} (c : Config) (u : Rules c) (i : ℕ) (s : State K) where
         seen' = rw (station-put_all, station-set) d;
       }
 
-  pub puts_begin : (station_at s i).mode ≡ normal → Invariant c s → Puts c i s (begin_reset c i s) (λ b. resetReq ∷ [])
+  pub puts_begin : (station_at s i).mode ≡ normal → Invariant c s → Puts c i s (begin_reset c i s) (λ b. reset_req ∷ [])
   unfolding begin_reset
   puts_begin h v =
-      puts_all (begun (station_at s i)) resetReq (omega arith) (λ j k. refl)
+      puts_all (begun (station_at s i)) reset_req (omega arith) (λ j k. refl)
       (λ j k. rw (none_at, h, v.seen i j k h) (omega arith))
       (λ b. rw h (omega arith))
       (λ j k e. clash (cc))
@@ -62,10 +62,10 @@ module _ {K : Clock} (c : Config) (u : Rules c) (i : ℕ) (s : State K) where
   begin_keeps h v = puts_quiet c u i s _ _ v (puts_begin h v) (λ b. refl)
 
   -- rule a
-  pub puts_renew : (station_at s i).mode ≡ mute → every_neighbour c i (req_seen (station_at s i)) ≡ true → Puts c i s (renew c i s) (λ b. resetDone ∷ [])
+  pub puts_renew : (station_at s i).mode ≡ mute → every_neighbour c i (req_seen (station_at s i)) ≡ true → Puts c i s (renew c i s) (λ b. reset_done ∷ [])
   unfolding renew
   puts_renew h a =
-      puts_all (renewed (station_at s i)) resetDone (omega arith)
+      puts_all (renewed (station_at s i)) reset_done (omega arith)
       (λ j k. rw (none_at, every_neighbour_at c u i (req_seen (station_at s i)) a j k) (omega arith))
       (λ j k. rw h (omega arith))
       (λ b. rw h (omega arith))
@@ -93,15 +93,15 @@ module _ {K : Clock} (c : Config) (u : Rules c) (i : ℕ) (s : State K) where
       }
 
   -- rule b
-  pub puts_wake : (station_at s i).mode ≡ standBy → every_neighbour c i (done_seen (station_at s i)) ≡ true → Puts c i s (wake i s) (λ b. [])
+  pub puts_wake : (station_at s i).mode ≡ stand_by → every_neighbour c i (done_seen (station_at s i)) ≡ true → Puts c i s (wake i s) (λ b. [])
   unfolding wake
   puts_wake h a = puts_own (woken (station_at s i)) refl (rw h) refl refl (λ j k e. every_neighbour_at c u i (done_seen (station_at s i)) a j k)
 
   rule_keeps : (r : Rule) → Tested c i (station_at s i) r → Invariant c s → Maintained c s (apply c i s r)
-  rule_keeps ruleA t v = puts_quiet c u i s _ _ v (puts_renew t.0 t.1) (λ b. refl)
-  rule_keeps ruleB t v = puts_quiet c u i s _ _ v (puts_wake t.0 t.1) (λ b. refl)
-  rule_keeps ruleC t v = begin_keeps t.0 v
-  rule_keeps noRule t v = kept_still v
+  rule_keeps rule_a t v = puts_quiet c u i s _ _ v (puts_renew t.0 t.1) (λ b. refl)
+  rule_keeps rule_b t v = puts_quiet c u i s _ _ v (puts_wake t.0 t.1) (λ b. refl)
+  rule_keeps rule_c t v = begin_keeps t.0 v
+  rule_keeps no_rule t v = kept_still v
 
   pub turn_once_keeps : Invariant c s → Maintained c s (turn_once c i s)
   unfolding turn_once
@@ -126,12 +126,12 @@ module _ {K : Clock} (c : Config) (u : Rules c) (s : State K) (v : Invariant c s
 may_send_unmuted : (m : Mode) (d : Bool) → may_send m d ≡ true → muted m ≡ 0
 may_send_unmuted normal d h = refl
 may_send_unmuted mute d h = clash (cc)
-may_send_unmuted standBy d h = refl
+may_send_unmuted stand_by d h = refl
 
 may_send-seen : (m : Mode) (d : Bool) → may_send m d ≡ true → (m ≡ normal → d ≡ true) → d ≡ true
 may_send-seen normal d h k = k refl
 may_send-seen mute d h k = clash (cc)
-may_send-seen standBy d h k = h
+may_send-seen stand_by d h k = h
 
 module _ {K : Clock} (c : Config) (u : Rules c) (s : State K) (v : Invariant c s) (i j g : ℕ) (ij : neighbours c i j ≡ true)
     (may : may_send (station_at s i).mode (done_seen (station_at s i) j) ≡ true) where
@@ -232,30 +232,30 @@ module _ {K : Clock} (c : Config) (u : Rules c) (s : State K) (v : Invariant c s
       (λ h. h.2)
 
   -- reset_req: it was not seen before
-  pub req_new : link_at s j i ≡ resetReq ∷ q → suc (reqs_taken (station_at s i) j) ≡ (station_at s i).phase + 1
+  pub req_new : link_at s j i ≡ reset_req ∷ q → suc (reqs_taken (station_at s i) j) ≡ (station_at s i).phase + 1
   req_new held =
       let h = rw held at (v.flow j i (u.both_ways i j ij)) in
       let k = flow-reqs _ _ _ q _ _ h.1 in
       let l = target-near c s v i j ij in
       omega arith
 
-  pub takes_req : link_at s j i ≡ resetReq ∷ q → TakesOff c i j s (set_link (set_station s i (with_req j (station_at s i))) j i q) resetReq q []
+  pub takes_req : link_at s j i ≡ reset_req ∷ q → TakesOff c i j s (set_link (set_station s i (with_req j (station_at s i))) j i q) reset_req q []
   takes_req held =
-      taken_by (with_req j (station_at s i)) resetReq [] held refl refl (λ k n. put_other false (station_at s i).reqs j k true n) (λ k n. refl) (λ k d. d)
+      taken_by (with_req j (station_at s i)) reset_req [] held refl refl (λ k n. put_other false (station_at s i).reqs j k true n) (λ k n. refl) (λ k d. d)
       (λ h. rw (put_same, req_new held))
       (λ h. rw (put_same, ← req_new held) h.1)
 
   -- reset_done: it was not seen before
-  pub done_new : link_at s j i ≡ resetDone ∷ q → suc (dones_taken (station_at s i) j) ≡ target (station_at s i) + 1
+  pub done_new : link_at s j i ≡ reset_done ∷ q → suc (dones_taken (station_at s i) j) ≡ target (station_at s i) + 1
   done_new held =
       let h = rw held at (v.flow j i (u.both_ways i j ij)) in
       let k = flow-dones _ _ _ q _ _ h.1 in
       let l = phase-near c s v i j ij in
       omega arith
 
-  pub takes_done : link_at s j i ≡ resetDone ∷ q → TakesOff c i j s (set_link (set_station s i (with_done j (station_at s i))) j i q) resetDone q []
+  pub takes_done : link_at s j i ≡ reset_done ∷ q → TakesOff c i j s (set_link (set_station s i (with_done j (station_at s i))) j i q) reset_done q []
   takes_done held =
-      taken_by (with_done j (station_at s i)) resetDone [] held refl refl (λ k n. refl) (λ k n. put_other false (station_at s i).dones j k true n)
+      taken_by (with_done j (station_at s i)) reset_done [] held refl refl (λ k n. refl) (λ k n. put_other false (station_at s i).dones j k true n)
       (λ k d. by_dec (ℕ_discrete k j) (λ p. rw (p, put_same)) (λ p. put_other false (station_at s i).dones j k true p ∙ d))
       (λ h. refl)
       (λ h. rw (put_same, ← done_new held) h.1)
@@ -289,8 +289,8 @@ module _ {K : Clock} (c : Config) (u : Rules c) (s : State K) (v : Invariant c s
             (λ p. takes_still c u i j ij s s' y q [] v m a b h (ℕ_discrete b i) (λ e f. p e));
       }
 
-  pub req_keeps : link_at s j i ≡ resetReq ∷ q → Maintained c s (set_link (set_station s i (with_req j (station_at s i))) j i q)
-  req_keeps held = unmoved-take _ resetReq (takes_req held)
+  pub req_keeps : link_at s j i ≡ reset_req ∷ q → Maintained c s (set_link (set_station s i (with_req j (station_at s i))) j i q)
+  req_keeps held = unmoved-take _ reset_req (takes_req held)
 
-  pub done_keeps : link_at s j i ≡ resetDone ∷ q → Maintained c s (set_link (set_station s i (with_done j (station_at s i))) j i q)
-  done_keeps held = unmoved-take _ resetDone (takes_done held)
+  pub done_keeps : link_at s j i ≡ reset_done ∷ q → Maintained c s (set_link (set_station s i (with_done j (station_at s i))) j i q)
+  done_keeps held = unmoved-take _ reset_done (takes_done held)

@@ -8,7 +8,7 @@ use native.Mathlib.Decide.{ℕ_discrete}
 use Rattle.codec.proofs.SumLaws.{table_same, table_grows}
 use Rattle.reset.specs.Config.{Config, neighbours}
 use Rattle.reset.specs.Clock.{Clock}
-use Rattle.reset.specs.State.{Item, resetReq, resetDone, State, station_at, link_at}
+use Rattle.reset.specs.State.{Item, reset_req, reset_done, State, station_at, link_at}
 use Rattle.reset.specs.Steps.{Step, step}
 use Rattle.reset.specs.Receipts.{greatest_target, messages, under_way, reqs_taken, dones_taken, controls_taken, controls_left, receipts_to_rest, Receipts, is_accepted}
 use Rattle.reset.proofs.ConfigLaws.{Rules, station-below, neighbour-small}
@@ -115,11 +115,11 @@ module _ {K : Clock} (c : Config) (u : Rules c) (s : State K) (v : Invariant c s
             message_lowers c u i j ij s _ _ q _ v (takes_message c u s v i j ij q w g e) refl (rw (station-set_link, station-set)) (rw (station-set_link, station-set));
         req = λ i j q si ij e b r h.
             lowers_still c u s _ _
-            (control_lowers c u i j ij s _ resetReq q _ v (takes_req c u s v i j ij q e) refl (f i j ij) (rw (station-set_link, station-set) (req-counts c u s v i j ij q e)))
+            (control_lowers c u i j ij s _ reset_req q _ v (takes_req c u s v i j ij q e) refl (f i j ij) (rw (station-set_link, station-set) (req-counts c u s v i j ij q e)))
             (turn_still c u i (station-below c i si) _ (req_keeps c u s v i j ij q e).inv);
         done = λ i j q si ij e b r h.
             lowers_still c u s _ _
-            (control_lowers c u i j ij s _ resetDone q _ v (takes_done c u s v i j ij q e) refl (f i j ij) (rw (station-set_link, station-set) (done-counts c u s v i j ij q e)))
+            (control_lowers c u i j ij s _ reset_done q _ v (takes_done c u s v i j ij q e) refl (f i j ij) (rw (station-set_link, station-set) (done-counts c u s v i j ij q e)))
             (turn_still c u i (station-below c i si) _ (done_keeps c u s v i j ij q e).inv);
         started = λ i si m l b r h. absurd r;
       })

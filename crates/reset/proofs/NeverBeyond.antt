@@ -9,7 +9,7 @@ use Rattle.codec.proofs.SumLaws.{sum-zero}
 use Rattle.reset.specs.Config.{Config, well_made, network_rules}
 use Rattle.reset.proofs.ConfigLaws.{Rules, rules, station-below}
 use Rattle.reset.specs.Clock.{vector}
-use Rattle.reset.specs.State.{resetReq, resetDone, State, station_at, sent_to}
+use Rattle.reset.specs.State.{reset_req, reset_done, State, station_at, sent_to}
 use Rattle.reset.specs.Steps.{Step, Answer, refused, entry, mode_after, Outcome, guard, bounded, step}
 use Rattle.reset.specs.Network.{initial_station, initial, run}
 use Rattle.reset.specs.Bounds.{NeverBeyond}
@@ -51,12 +51,12 @@ module _ (c : Config) (u : Rules c) (r : network_rules c ≡ true) (s : State ve
             let il = station-below c i si in
             let k = (req_keeps c u s v i j ij q e).inv in
             accepted _ (turn_keeps c u i _ k).inv
-            (turn_books c u i il _ k (mark_books c u r i il s v w j ij _ resetReq q _ (takes_req c u s v i j ij q e) refl (λ z. z) refl refl refl refl refl)) tt;
+            (turn_books c u i il _ k (mark_books c u r i il s v w j ij _ reset_req q _ (takes_req c u s v i j ij q e) refl (λ z. z) refl refl refl refl refl)) tt;
         done = λ i j q si ij e.
             let il = station-below c i si in
             let k = (done_keeps c u s v i j ij q e).inv in
             accepted _ (turn_keeps c u i _ k).inv
-            (turn_books c u i il _ k (mark_books c u r i il s v w j ij _ resetDone q _ (takes_done c u s v i j ij q e) refl (λ z. z) refl refl refl refl refl)) tt;
+            (turn_books c u i il _ k (mark_books c u r i il s v w j ij _ reset_done q _ (takes_done c u s v i j ij q e) refl (λ z. z) refl refl refl refl refl)) tt;
         started = λ i si m l.
             let il = station-below c i si in
             let k = (begin_keeps c u i s m v).inv in

@@ -14,8 +14,8 @@ use Rattle.reset.specs.Config.{Config, is_station, neighbours, places}
 use Rattle.reset.specs.Receipts.{target, reqs_taken, dones_taken}
 use Rattle.reset.proofs.ConfigLaws.{Rules, neighbour-small}
 use Rattle.reset.specs.Clock.{Clock}
-use Rattle.reset.specs.State.{normal, Item, message, resetReq, resetDone, State, station_at, link_at, req_seen}
-use Rattle.reset.specs.Steps.{some_neighbour, ruleC, noRule, recv, refused, guard, in_bounds, is_normal, step}
+use Rattle.reset.specs.State.{normal, Item, message, reset_req, reset_done, State, station_at, link_at, req_seen}
+use Rattle.reset.specs.Steps.{some_neighbour, rule_c, no_rule, recv, refused, guard, in_bounds, is_normal, step}
 use Rattle.reset.specs.Network.{link_empty, links_empty, stations_quiescent, quiescent}
 use Rattle.reset.proofs.Changes.{tags, waiting}
 use Rattle.reset.proofs.Flow.{Flow, flow-reqs, flow-dones}
@@ -64,8 +64,8 @@ module _ {K : Clock} (c : Config) (s : State K) where
   flow_still : (p r e : ℕ) (q : List (Item K)) (R E : ℕ) → Flow p r e q R E → r ≡ R → e ≡ E → tags r q ≡ [] → q ≡ []
   flow_still p r e [] R E h a b t = refl
   flow_still p r e (message w g ∷ q) R E h a b t = clash (cc)
-  flow_still p r e (resetReq ∷ q) R E h a b t = let k = flow-reqs p (suc r) e q R E h.1 in absurd (omega arith)
-  flow_still p r e (resetDone ∷ q) R E h a b t = let k = flow-dones p r (suc e) q R E h.1 in absurd (omega arith)
+  flow_still p r e (reset_req ∷ q) R E h a b t = let k = flow-reqs p (suc r) e q R E h.1 in absurd (omega arith)
+  flow_still p r e (reset_done ∷ q) R E h a b t = let k = flow-dones p r (suc e) q R E h.1 in absurd (omega arith)
 
   -- where there is no link, there is no place for an item
   pub unlinked-empty : in_bounds c s ≡ true → (i j : ℕ) → i < 8 → j < 8 → neighbours c i j ≡ false → link_at s i j ≡ []
@@ -79,7 +79,7 @@ module _ {K : Clock} (c : Config) (s : State K) where
     pub no_req : (i j : ℕ) → i < c.n → (station_at s i).mode ≡ normal → neighbours c i j ≡ true → req_seen (station_at s i) j ≡ false
     unfolding some_neighbour
     no_req i j l m ij =
-        by_test (some_neighbour c i (req_seen (station_at s i))) (λ e. let z : ruleC ≡ noRule = rw (m, e) at (v.no_rule i l) in clash (cc))
+        by_test (some_neighbour c i (req_seen (station_at s i))) (λ e. let z : rule_c ≡ no_rule = rw (m, e) at (v.no_rule_lem i l) in clash (cc))
         (λ e. rw ij at (some_fails 8 _ e j (neighbour-small c u i j ij)))
 
     pub none_waiting : stations_quiescent c s ≡ true → (i j : ℕ) → neighbours c i j ≡ true → waiting s i j ≡ [] → link_at s i j ≡ []

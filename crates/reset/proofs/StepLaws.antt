@@ -9,7 +9,7 @@ use borrow.Author.Tests.{not-false, leb-false, ltb-true}
 use Rattle.clock.proofs.NewsLaws.{news-most}
 use Rattle.reset.specs.Config.{Config, is_station, neighbours, limit_at, allowance_at}
 use Rattle.reset.specs.Clock.{Clock}
-use Rattle.reset.specs.State.{Mode, normal, mute, standBy, Item, message, resetReq, resetDone, State, station_at, link_at, done_seen, sent_to, set_station}
+use Rattle.reset.specs.State.{Mode, normal, mute, stand_by, Item, message, reset_req, reset_done, State, station_at, link_at, done_seen, sent_to, set_station}
 use Rattle.reset.specs.Bears.{Bears, Tells, Taker}
 use Rattle.reset.specs.Steps.{Step, enter, send, recv, start, Entry, refused, entry, Outcome, refuse, guard, in_bounds, bounded, do_enter, may_send, do_send, receiving, do_receive, with_req, with_done, do_mark, receive, do_start, is_normal, in_last_phase, step}
 use Rattle.reset.specs.Network.{run}
@@ -30,7 +30,7 @@ module _ {K : Clock} (c : Config) (s : State K) (P : Outcome K → Type 0) where
 pub is_normal_lem : (m : Mode) → is_normal m ≡ true → m ≡ normal
 is_normal_lem normal h = refl
 is_normal_lem mute h = clash (cc)
-is_normal_lem standBy h = clash (cc)
+is_normal_lem stand_by h = clash (cc)
 
 -- ---- the cases of a step
 -- T holds of each outcome that only a bound can still refuse, with what was tested before it
@@ -40,9 +40,9 @@ pub record Cases {K : Clock} (c : Config) (s : State K) (T : Step → Outcome K 
       → sent_to (station_at s i) j < limit_at c (station_at s i).phase i j → T (send i j g) (do_send i j g s)
   pub received : (i j : ℕ) (w : K.Load) (g : ℕ) (q : List (Item K)) → is_station c i ≡ true → neighbours c i j ≡ true → link_at s j i ≡ message w g ∷ q
       → T (recv i j) (do_receive i j w g q s)
-  pub req : (i j : ℕ) (q : List (Item K)) → is_station c i ≡ true → neighbours c i j ≡ true → link_at s j i ≡ resetReq ∷ q
+  pub req : (i j : ℕ) (q : List (Item K)) → is_station c i ≡ true → neighbours c i j ≡ true → link_at s j i ≡ reset_req ∷ q
       → T (recv i j) (do_mark c i j (with_req j (station_at s i)) q s)
-  pub done : (i j : ℕ) (q : List (Item K)) → is_station c i ≡ true → neighbours c i j ≡ true → link_at s j i ≡ resetDone ∷ q
+  pub done : (i j : ℕ) (q : List (Item K)) → is_station c i ≡ true → neighbours c i j ≡ true → link_at s j i ≡ reset_done ∷ q
       → T (recv i j) (do_mark c i j (with_done j (station_at s i)) q s)
   pub started : (i : ℕ) → is_station c i ≡ true → (station_at s i).mode ≡ normal → in_last_phase (station_at s i) ≡ false → T (start i) (do_start c i s)
 
@@ -56,8 +56,8 @@ module _ {K : Clock} (c : Config) (s : State K) (P : Step → Outcome K → Type
   of_receive : (i j : ℕ) → is_station c i ≡ true → neighbours c i j ≡ true → (l : List (Item K)) → link_at s j i ≡ l → P (recv i j) (receive c i j s l)
   of_receive i j si ij [] e = R (recv i j) 7 (omega arith) (omega arith)
   of_receive i j si ij (message w g ∷ q) e = C.received i j w g q si ij e
-  of_receive i j si ij (resetReq ∷ q) e = C.req i j q si ij e
-  of_receive i j si ij (resetDone ∷ q) e = C.done i j q si ij e
+  of_receive i j si ij (reset_req ∷ q) e = C.req i j q si ij e
+  of_receive i j si ij (reset_done ∷ q) e = C.done i j q si ij e
 
   pub of_attempt : (p : Step) → P p (step c s p)
   of_attempt (enter i g) =

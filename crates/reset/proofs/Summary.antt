@@ -10,7 +10,7 @@ use Rattle.reset.specs.Config.{Config, is_station, neighbours}
 use Rattle.reset.proofs.ConfigLaws.{Rules, station-below}
 use Rattle.reset.specs.Clock.{Clock}
 use Rattle.reset.specs.State.{normal, Item, message, Station, State, station_at, link_at, done_seen, set_station, set_link}
-use Rattle.reset.specs.Steps.{begun, begin_reset, Rule, ruleA, ruleB, ruleC, noRule, rule_of, applied, turn_once, turn, Step, enter, send, recv, start, Outcome, do_enter, may_send, do_send, receiving, do_receive, do_mark, do_start, step}
+use Rattle.reset.specs.Steps.{begun, begin_reset, Rule, rule_a, rule_b, rule_c, no_rule, rule_of, applied, turn_once, turn, Step, enter, send, recv, start, Outcome, do_enter, may_send, do_send, receiving, do_receive, do_mark, do_start, step}
 use Rattle.reset.proofs.Views.{station-set, station-set-other, station-set_link, station-put_all}
 use Rattle.reset.proofs.TurnLaws.{station-turn_once, station-turn_once-other, station_turn_other}
 use Rattle.reset.proofs.StepLaws.{of_step}
@@ -27,10 +27,10 @@ move-then x y z (renews p q) (stays p' q') = renews (omega arith) (q' ∙ q)
 move-then x y z (renews p q) (renews p' q') = renews (omega arith) q'
 
 move_rule : {K : Clock} (x : Station K) (r : Rule) → Move x (applied x r)
-move_rule x ruleA = renews (omega arith) refl
-move_rule x ruleB = stays refl refl
-move_rule x ruleC = stays refl refl
-move_rule x noRule = stays refl refl
+move_rule x rule_a = renews (omega arith) refl
+move_rule x rule_b = stays refl refl
+move_rule x rule_c = stays refl refl
+move_rule x no_rule = stays refl refl
 
 module _ {K : Clock} (c : Config) (i : ℕ) where
   move-turn_once : (s : State K) (k : ℕ) → Move (station_at s k) (station_at (turn_once c i s) k)

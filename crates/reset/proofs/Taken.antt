@@ -15,8 +15,8 @@ use Rattle.codec.proofs.SumLaws.{greatest_at, greatest-below}
 use Rattle.codec.proofs.SomeLaws.{some_holds}
 use Rattle.reset.specs.Config.{Config, neighbours}
 use Rattle.reset.specs.Clock.{Clock, vector}
-use Rattle.reset.specs.State.{Item, resetReq, resetDone, Station, State, station_at, link_at, req_seen, set_station, set_link}
-use Rattle.reset.specs.Steps.{some_neighbour, Rule, ruleA, ruleB, ruleC, noRule, rule_of, applied, apply, turn_once, turn, Step, enter, send, recv, start, refused, Outcome, with_req, with_done, do_mark, step}
+use Rattle.reset.specs.State.{Item, reset_req, reset_done, Station, State, station_at, link_at, req_seen, set_station, set_link}
+use Rattle.reset.specs.Steps.{some_neighbour, Rule, rule_a, rule_b, rule_c, no_rule, rule_of, applied, apply, turn_once, turn, Step, enter, send, recv, start, refused, Outcome, with_req, with_done, do_mark, step}
 use Rattle.reset.specs.Network.{initial, log, run}
 use Rattle.reset.specs.Receipts.{muted, bit, target, greatest_target, messages, reqs_taken, dones_taken, control_of, controls_in, ControlsTold}
 use Rattle.reset.proofs.ConfigLaws.{Rules, rules, station-below, neighbour-small}
@@ -106,20 +106,20 @@ module _ {K : Clock} (c : Config) (u : Rules c) (i : ℕ) (il : i < c.n) (s : St
   -- the record after a rule aims no lower than the one before, and at most at the greatest target
   aims : (r : Rule) → Tested c i (station_at s i) r
       → (target (station_at s i) ≤ target (applied (station_at s i) r)) × (target (applied (station_at s i) r) ≤ greatest_target c s)
-  aims ruleA t = let a = target_at-most c s i il in let d = ap muted t.0 in (omega arith, omega arith)
-  aims ruleB t = let a = target_at-most c s i il in let d = ap muted t.0 in (omega arith, omega arith)
-  aims ruleC t = let a = next_aimed_at t.1 in let d = ap muted t.0 in (omega arith, omega arith)
-  aims noRule t = (omega arith, target_at-most c s i il)
+  aims rule_a t = let a = target_at-most c s i il in let d = ap muted t.0 in (omega arith, omega arith)
+  aims rule_b t = let a = target_at-most c s i il in let d = ap muted t.0 in (omega arith, omega arith)
+  aims rule_c t = let a = next_aimed_at t.1 in let d = ap muted t.0 in (omega arith, omega arith)
+  aims no_rule t = (omega arith, target_at-most c s i il)
 
   rule_still : (r : Rule) → Tested c i (station_at s i) r → Still c s (apply c i s r)
   rule_still r t = go r t (rw (station-apply c i s r) (aims r t).0) (rw (station-apply c i s r) (aims r t).1)
     where
       go : (r : Rule) → Tested c i (station_at s i) r → target (station_at s i) ≤ target (station_at (apply c i s r) i) → target (station_at (apply c i s r) i) ≤ greatest_target c s
           → Still c s (apply c i s r)
-      go ruleA t a b = puts_still c i s _ _ (puts_renew c u i s t.0 t.1) (λ b. refl) il a b
-      go ruleB t a b = puts_still c i s _ _ (puts_wake c u i s t.0 t.1) (λ b. refl) il a b
-      go ruleC t a b = puts_still c i s _ _ (puts_begin c u i s t.0 v) (λ b. refl) il a b
-      go noRule t a b = still_same c s
+      go rule_a t a b = puts_still c i s _ _ (puts_renew c u i s t.0 t.1) (λ b. refl) il a b
+      go rule_b t a b = puts_still c i s _ _ (puts_wake c u i s t.0 t.1) (λ b. refl) il a b
+      go rule_c t a b = puts_still c i s _ _ (puts_begin c u i s t.0 v) (λ b. refl) il a b
+      go no_rule t a b = still_same c s
 
   pub turn_once_still : Still c s (turn_once c i s)
   unfolding turn_once
@@ -142,11 +142,11 @@ module _ {K : Clock} (c : Config) (i j : ℕ) (s s' : State K) (x : Item K) (q :
 
 -- the record after a control item has one taken more
 module _ {K : Clock} (c : Config) (u : Rules c) (s : State K) (v : Invariant c s) (i j : ℕ) (ij : neighbours c i j ≡ true) (q : List (Item K)) where
-  pub req-counts : link_at s j i ≡ resetReq ∷ q
+  pub req-counts : link_at s j i ≡ reset_req ∷ q
       → reqs_taken (with_req j (station_at s i)) j + dones_taken (with_req j (station_at s i)) j ≡ suc (reqs_taken (station_at s i) j + dones_taken (station_at s i) j)
   req-counts held = rw put_same (omega (arith, req_new c u s v i j ij q held))
 
-  pub done-counts : link_at s j i ≡ resetDone ∷ q
+  pub done-counts : link_at s j i ≡ reset_done ∷ q
       → reqs_taken (with_done j (station_at s i)) j + dones_taken (with_done j (station_at s i)) j ≡ suc (reqs_taken (station_at s i) j + dones_taken (station_at s i) j)
   done-counts held = rw put_same (omega (arith, done_new c u s v i j ij q held))
 
@@ -194,8 +194,8 @@ module _ {K : Clock} (c : Config) (u : Rules c) (s : State K) (v : Invariant c s
         sent = λ i j g si ij m l w. untaken-sum (puts_untaken c i s _ _ (puts_send c u s v i j g ij m));
         received = λ i j load g q si ij e w a b h.
             by_dec (ℕ_discrete a i) (λ p. rw (p, station-set_link, station-set) (omega arith)) (λ p. rw ((takes_message c u s v i j ij q load g e).others a p) (omega arith));
-        req = λ i j q si ij e w. control_takes i j (station-below c i si) _ resetReq q (req_keeps c u s v i j ij q e).inv (takes_req c u s v i j ij q e) (req-counts c u s v i j ij q e);
-        done = λ i j q si ij e w. control_takes i j (station-below c i si) _ resetDone q (done_keeps c u s v i j ij q e).inv (takes_done c u s v i j ij q e) (done-counts c u s v i j ij q e);
+        req = λ i j q si ij e w. control_takes i j (station-below c i si) _ reset_req q (req_keeps c u s v i j ij q e).inv (takes_req c u s v i j ij q e) (req-counts c u s v i j ij q e);
+        done = λ i j q si ij e w. control_takes i j (station-below c i si) _ reset_done q (done_keeps c u s v i j ij q e).inv (takes_done c u s v i j ij q e) (done-counts c u s v i j ij q e);
         started = λ i si m l w a b h.
             omega (
               arith,

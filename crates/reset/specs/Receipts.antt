@@ -4,7 +4,7 @@ use Rattle.std.specs.Prelude.{ℕ, suc, ◌+◌, ◌*◌, ◌-◌, ◌≤◌, �
 use Rattle.codec.specs.Every.{sum, greatest}
 use Rattle.reset.specs.Config.{Config, neighbours, well_made, network_rules}
 use Rattle.reset.specs.Clock.{Clock, vector}
-use Rattle.reset.specs.State.{Mode, normal, mute, standBy, Item, message, resetReq, resetDone, Station, State, station_at, link_at, req_seen, done_seen}
+use Rattle.reset.specs.State.{Mode, normal, mute, stand_by, Item, message, reset_req, reset_done, Station, State, station_at, link_at, req_seen, done_seen}
 use Rattle.reset.specs.Steps.{Step, enter, send, recv, start, Answer, refused, entry, mode_after, step}
 use Rattle.reset.specs.Network.{initial, Answered, log, run, links_empty}
 
@@ -13,7 +13,7 @@ use Rattle.reset.specs.Network.{initial, Answered, log, run, links_empty}
 abbrev pub muted : Mode → ℕ
 muted normal = 0
 muted mute = 1
-muted standBy = 0
+muted stand_by = 0
 
 abbrev pub bit : Bool → ℕ
 bit true = 1
@@ -31,8 +31,8 @@ greatest_target c s = greatest c.n (λ (i : ℕ). target (station_at s i))
 abbrev pub messages : {K : Clock} → List (Item K) → ℕ
 messages [] = 0
 messages (message w g ∷ q) = suc (messages q)
-messages (resetReq ∷ q) = messages q
-messages (resetDone ∷ q) = messages q
+messages (reset_req ∷ q) = messages q
+messages (reset_done ∷ q) = messages q
 
 -- on all links
 unfoldable pub under_way : {K : Clock} → State K → ℕ

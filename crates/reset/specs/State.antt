@@ -7,12 +7,12 @@ use Rattle.reset.specs.Clock.{Clock}
 
 -- A station's mode.
 pub data Mode : Type 0 where
-  normal mute standBy : Mode
+  normal mute stand_by : Mode
 
 -- What a link holds: a message (document 01: note), which is its sender's timestamp as the clock carries it and a register number; reset_req; reset_done.
 pub data Item (K : Clock) : Type 0 where
   message : K.Load → ℕ → Item K
-  resetReq resetDone : Item K
+  reset_req reset_done : Item K
 
 -- A station's record: its counts, as the clock keeps them; mode; phase; its own entries, and the messages sent on each link, in this phase; and for each
 -- neighbour "req seen" and "done seen".

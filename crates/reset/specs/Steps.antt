@@ -6,7 +6,7 @@ use Rattle.clock.specs.Timestamp.{zeros, news}
 use Rattle.clock.specs.Range.{last_phase}
 use Rattle.reset.specs.Config.{Config, is_station, neighbours, limit_at, allowance_at, places}
 use Rattle.reset.specs.Clock.{Clock}
-use Rattle.reset.specs.State.{Mode, normal, mute, standBy, Item, message, resetReq, resetDone, Station, State, none_seen, station_at, link_at, req_seen, done_seen, sent_to, with_time, with_mode, with_phase, with_own, with_sent, with_reqs, with_dones, set_station, set_link, put_on, put_on_all}
+use Rattle.reset.specs.State.{Mode, normal, mute, stand_by, Item, message, reset_req, reset_done, Station, State, none_seen, station_at, link_at, req_seen, done_seen, sent_to, with_time, with_mode, with_phase, with_own, with_sent, with_reqs, with_dones, set_station, set_link, put_on, put_on_all}
 
 -- ---- begin and the reset rules (document 01: turning rules)
 -- p holds of every neighbour of i; of some neighbour of i
@@ -22,7 +22,7 @@ begun x = with_mode mute (with_dones none_seen x)
 
 -- the record after rule a: phase +1; counts, own entries and messages sent 0; reqs seen forgotten; stand-by
 abbrev pub renewed : {K : Clock} → Station K → Station K
-renewed {K} x = with_mode standBy (with_phase (suc x.phase) (with_time K.start (with_own 0 (with_sent zeros (with_reqs none_seen x)))))
+renewed {K} x = with_mode stand_by (with_phase (suc x.phase) (with_time K.start (with_own 0 (with_sent zeros (with_reqs none_seen x)))))
 
 -- the record after rule b: normal
 abbrev pub woken : {K : Clock} → Station K → Station K
@@ -30,11 +30,11 @@ woken x = with_mode normal x
 
 -- begin, at station i: reset_req on every link out, and the record after begin
 unfoldable pub begin_reset : {K : Clock} → Config → ℕ → State K → State K
-begin_reset c i s = put_on_all c (set_station s i (begun (station_at s i))) i resetReq
+begin_reset c i s = put_on_all c (set_station s i (begun (station_at s i))) i reset_req
 
 -- what rule a does at station i, its reset: the record after rule a, and reset_done on every link out
 unfoldable pub renew : {K : Clock} → Config → ℕ → State K → State K
-renew c i s = put_on_all c (set_station s i (renewed (station_at s i))) i resetDone
+renew c i s = put_on_all c (set_station s i (renewed (station_at s i))) i reset_done
 
 -- what rule b does at station i
 unfoldable pub wake : {K : Clock} → ℕ → State K → State K
@@ -42,14 +42,14 @@ wake i s = set_station s i (woken (station_at s i))
 
 -- which rule
 pub data Rule : Type 0 where
-  ruleA ruleB ruleC noRule : Rule
+  rule_a rule_b rule_c no_rule : Rule
 
 -- the first rule that applies, each being for one mode:
 -- (a) mute, and req seen from every neighbour; (b) stand-by, done seen from every neighbour; (c) normal and some req seen
 abbrev pub rule_in : Mode → Bool → Bool → Bool → Rule
-rule_in mute everyReq everyDone someReq = cond everyReq ruleA noRule
-rule_in standBy everyReq everyDone someReq = cond everyDone ruleB noRule
-rule_in normal everyReq everyDone someReq = cond someReq ruleC noRule
+rule_in mute every_req every_done some_req = cond every_req rule_a no_rule
+rule_in stand_by every_req every_done some_req = cond every_done rule_b no_rule
+rule_in normal every_req every_done some_req = cond some_req rule_c no_rule
 
 -- the one that applies to station i, whose record is x
 abbrev pub rule_of : {K : Clock} → Config → ℕ → Station K → Rule
@@ -57,17 +57,17 @@ rule_of c i x = rule_in x.mode (every_neighbour c i (req_seen x)) (every_neighbo
 
 -- the record after a rule
 abbrev pub applied : {K : Clock} → Station K → Rule → Station K
-applied x ruleA = renewed x
-applied x ruleB = woken x
-applied x ruleC = begun x
-applied x noRule = x
+applied x rule_a = renewed x
+applied x rule_b = woken x
+applied x rule_c = begun x
+applied x no_rule = x
 
 -- a rule applied at station i
 abbrev pub apply : {K : Clock} → Config → ℕ → State K → Rule → State K
-apply c i s ruleA = renew c i s
-apply c i s ruleB = wake i s
-apply c i s ruleC = begin_reset c i s
-apply c i s noRule = s
+apply c i s rule_a = renew c i s
+apply c i s rule_b = wake i s
+apply c i s rule_c = begin_reset c i s
+apply c i s no_rule = s
 
 -- the first rule that applies, once; nothing where none does
 unfoldable pub turn_once : {K : Clock} → Config → ℕ → State K → State K
@@ -176,7 +176,7 @@ do_send {K} i j g s =
 abbrev pub may_send : Mode → Bool → Bool
 may_send normal seen = true
 may_send mute seen = false
-may_send standBy seen = seen
+may_send stand_by seen = seen
 
 -- ---- recv i j: station i takes the first item of the link from j to i, and leaves q there
 -- the record after a message: the counts are raised, own count +1
@@ -214,8 +214,8 @@ do_mark c i j x q s = settle c i (set_link (set_station s i x) j i q)
 abbrev pub receive : {K : Clock} → Config → ℕ → ℕ → State K → List (Item K) → Outcome K
 receive c i j s [] = refuse s 7
 receive c i j s (message w g ∷ q) = bounded c s (do_receive i j w g q s)
-receive c i j s (resetReq ∷ q) = bounded c s (do_mark c i j (with_req j (station_at s i)) q s)
-receive c i j s (resetDone ∷ q) = bounded c s (do_mark c i j (with_done j (station_at s i)) q s)
+receive c i j s (reset_req ∷ q) = bounded c s (do_mark c i j (with_req j (station_at s i)) q s)
+receive c i j s (reset_done ∷ q) = bounded c s (do_mark c i j (with_done j (station_at s i)) q s)
 
 -- ---- start i: begin, then the reset rules
 abbrev pub do_start : {K : Clock} → Config → ℕ → State K → Outcome K
@@ -225,7 +225,7 @@ do_start c i s = settle c i (begin_reset c i s)
 abbrev pub is_normal : Mode → Bool
 is_normal normal = true
 is_normal mute = false
-is_normal standBy = false
+is_normal stand_by = false
 
 -- and not in the last phase
 abbrev pub in_last_phase : {K : Clock} → Station K → Bool

@@ -4,7 +4,7 @@ use Rattle.codec.specs.Every.{every}
 use Rattle.clock.specs.Range.{last_phase}
 use Rattle.reset.specs.Config.{Config, is_station, neighbours, limit_at, allowance_at, places, well_made, network_rules}
 use Rattle.reset.specs.Clock.{Clock, of_station}
-use Rattle.reset.specs.State.{Item, message, resetReq, resetDone, Station, State, station_at, link_at, req_seen, done_seen, sent_to}
+use Rattle.reset.specs.State.{Item, message, reset_req, reset_done, Station, State, station_at, link_at, req_seen, done_seen, sent_to}
 use Rattle.reset.specs.Steps.{Step, enter, send, recv, start, is_normal}
 
 -- a register number is at most 4,294,967,295
@@ -45,12 +45,12 @@ station_fits {K} c i x = K.time_fits c i x.time && (mode_fits c i x && (phase_fi
 -- what a message carries, and its register number, in range
 abbrev pub item_fits : {K : Clock} → Config → Item K → Bool
 item_fits {K} c (message w g) = K.load_fits c w && register_fits g
-item_fits c resetReq = true
-item_fits c resetDone = true
+item_fits c reset_req = true
+item_fits c reset_done = true
 
 -- item k of q in range
 abbrev pub item_fits_at : {K : Clock} → Config → List (Item K) → ℕ → Bool
-item_fits_at c q k = item_fits c (get_or q k resetReq)
+item_fits_at c q k = item_fits c (get_or q k reset_req)
 
 -- no more items than it has places, each in range
 unfoldable pub link_fits : {K : Clock} → Config → ℕ → ℕ → List (Item K) → Bool

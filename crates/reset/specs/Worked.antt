@@ -8,7 +8,7 @@ use Rattle.clock.specs.Timestamp.{zeros, news}
 use Rattle.reset.specs.Reach.{limit, linked}
 use Rattle.reset.specs.Config.{Config, is_station, neighbours, limit_at, allowance_at, places}
 use Rattle.reset.specs.Clock.{vector}
-use Rattle.reset.specs.State.{Mode, normal, mute, standBy, State, none_seen, station_at, link_at, set_station, set_link, put_linked, put_first, put_on_all}
+use Rattle.reset.specs.State.{Mode, normal, mute, stand_by, State, none_seen, station_at, link_at, set_station, set_link, put_linked, put_first, put_on_all}
 use Rattle.reset.specs.Steps.{every_neighbour, some_neighbour, begin_reset, renew, wake, turn_once, turn, Step, enter, send, recv, start, Answer, is_receipt, refused, entry, mode_after, guard, in_bounds, bounded}
 use Rattle.reset.specs.Network.{initial, Answered, log}
 
@@ -61,8 +61,8 @@ pub worked-listing : lines pair listing
     ∷ entry_line 0 0 (2 ∷ 0 ∷ [])
     ∷ mode_line 0 1 mute
     ∷ receipt_line 0 1 (2 ∷ 1 ∷ []) 1
-    ∷ mode_line 1 0 standBy
-    ∷ mode_line 1 1 standBy
+    ∷ mode_line 1 0 stand_by
+    ∷ mode_line 1 1 stand_by
     ∷ mode_line 1 1 normal
     ∷ entry_line 1 1 (0 ∷ 1 ∷ [])
     ∷ mode_line 1 0 normal
@@ -103,33 +103,33 @@ pub record Traps : Type 0 where
   pub lone_start : lines lone (start 0 ∷ enter 0 1 ∷ enter 0 2 ∷ start 0 ∷ enter 0 3 ∷ start 1 ∷ [])
       ≡ mode_line 1 0 normal ∷ entry_line 1 0 (1 ∷ []) ∷ no_line 6 ∷ mode_line 2 0 normal ∷ entry_line 2 0 (1 ∷ []) ∷ no_line 4 ∷ []
   -- one req of two has come: no reset yet
-  pub one_req-of_two : lines middle (take 4 all_reset) ≡ mode_line 0 0 mute ∷ mode_line 1 1 standBy ∷ mode_line 1 2 standBy ∷ mode_line 0 0 mute ∷ []
+  pub one_req-of_two : lines middle (take 4 all_reset) ≡ mode_line 0 0 mute ∷ mode_line 1 1 stand_by ∷ mode_line 1 2 stand_by ∷ mode_line 0 0 mute ∷ []
   -- the second has come: a reset, and a stand-by that waits for both dones (not forgotten at begin, they would be there)
-  pub both_reqs : drop 4 (lines middle all_reset) ≡ mode_line 1 0 standBy ∷ []
+  pub both_reqs : drop 4 (lines middle all_reset) ≡ mode_line 1 0 stand_by ∷ []
   -- a req that meets a station in stand-by is kept: when the last done comes rule b applies, and then rule c (dropped, or c left out after b: normal)
   pub req_in_stand_by_lem : drop 5 (lines middle (all_reset ++ req_in_stand_by ++ (recv 0 2 ∷ [])))
-      ≡ mode_line 1 0 standBy ∷ mode_line 1 1 normal ∷ mode_line 1 1 mute ∷ mode_line 1 0 standBy ∷ mode_line 1 0 mute ∷ []
+      ≡ mode_line 1 0 stand_by ∷ mode_line 1 1 normal ∷ mode_line 1 1 mute ∷ mode_line 1 0 stand_by ∷ mode_line 1 0 mute ∷ []
   -- in stand-by a send is refused to a neighbour whose done is unseen, and allowed to one whose done is seen; a start is refused
   pub sends_in_stand_by : drop 5 (lines middle (all_reset ++ (send 0 1 7 ∷ recv 0 1 ∷ send 0 1 8 ∷ send 0 2 9 ∷ start 0 ∷ [])))
-      ≡ no_line 5 ∷ mode_line 1 0 standBy ∷ entry_line 1 0 (1 ∷ 0 ∷ 0 ∷ []) ∷ no_line 5 ∷ no_line 5 ∷ []
+      ≡ no_line 5 ∷ mode_line 1 0 stand_by ∷ entry_line 1 0 (1 ∷ 0 ∷ 0 ∷ []) ∷ no_line 5 ∷ no_line 5 ∷ []
   -- a done that comes before the reset is kept (forgotten at the reset: stand-by in the last line)
   pub done_while_mute : lines middle (start 0 ∷ recv 1 0 ∷ recv 0 1 ∷ recv 0 1 ∷ recv 2 0 ∷ recv 0 2 ∷ recv 0 2 ∷ [])
-      ≡ mode_line 0 0 mute ∷ mode_line 1 1 standBy ∷ mode_line 0 0 mute ∷ mode_line 0 0 mute ∷ mode_line 1 2 standBy ∷ mode_line 1 0 standBy ∷ mode_line 1 0 normal ∷ []
+      ≡ mode_line 0 0 mute ∷ mode_line 1 1 stand_by ∷ mode_line 0 0 mute ∷ mode_line 0 0 mute ∷ mode_line 1 2 stand_by ∷ mode_line 1 0 stand_by ∷ mode_line 1 0 normal ∷ []
   -- own entries and messages sent are counted anew after the reset
   pub counted_anew : lines strict (enter 0 1 ∷ enter 0 2 ∷ send 0 1 3 ∷ send 0 1 4 ∷ start 0 ∷ recv 1 0 ∷ recv 1 0 ∷ recv 0 1 ∷ enter 0 5 ∷ recv 0 1 ∷ send 0 1 6 ∷ [])
-      ≡ entry_line 0 0 (1 ∷ 0 ∷ []) ∷ no_line 6 ∷ entry_line 0 0 (2 ∷ 0 ∷ []) ∷ no_line 6 ∷ mode_line 0 0 mute ∷ receipt_line 0 1 (2 ∷ 1 ∷ []) 1 ∷ mode_line 1 1 standBy
-      ∷ mode_line 1 0 standBy ∷ entry_line 1 0 (1 ∷ 0 ∷ []) ∷ mode_line 1 0 normal ∷ entry_line 1 0 (2 ∷ 0 ∷ []) ∷ []
+      ≡ entry_line 0 0 (1 ∷ 0 ∷ []) ∷ no_line 6 ∷ entry_line 0 0 (2 ∷ 0 ∷ []) ∷ no_line 6 ∷ mode_line 0 0 mute ∷ receipt_line 0 1 (2 ∷ 1 ∷ []) 1 ∷ mode_line 1 1 stand_by
+      ∷ mode_line 1 0 stand_by ∷ entry_line 1 0 (1 ∷ 0 ∷ []) ∷ mode_line 1 0 normal ∷ entry_line 1 0 (2 ∷ 0 ∷ []) ∷ []
   -- what was sent and entered in stand-by counts when the station is normal again: limit and allowance are used up
   pub counted_in_stand_by : drop 5 (lines middle (all_reset ++ (recv 0 1 ∷ send 0 1 7 ∷ enter 0 8 ∷ recv 0 2 ∷ send 0 1 9 ∷ enter 0 10 ∷ [])))
-      ≡ mode_line 1 0 standBy ∷ entry_line 1 0 (1 ∷ 0 ∷ 0 ∷ []) ∷ entry_line 1 0 (2 ∷ 0 ∷ 0 ∷ []) ∷ mode_line 1 0 normal ∷ no_line 6 ∷ no_line 6 ∷ []
+      ≡ mode_line 1 0 stand_by ∷ entry_line 1 0 (1 ∷ 0 ∷ 0 ∷ []) ∷ entry_line 1 0 (2 ∷ 0 ∷ 0 ∷ []) ∷ mode_line 1 0 normal ∷ no_line 6 ∷ no_line 6 ∷ []
   -- a start begins no new count: what was entered before it counts while the station is mute
   pub counted_while_mute : lines strict (enter 0 1 ∷ start 0 ∷ enter 0 2 ∷ []) ≡ entry_line 0 0 (1 ∷ 0 ∷ []) ∷ mode_line 0 0 mute ∷ no_line 6 ∷ []
   -- the limit of a send and the places of a link are those of its own direction, not of the way back
   pub own_direction : lines (skewed 8) (send 0 1 1 ∷ send 0 1 2 ∷ send 0 1 3 ∷ send 0 1 4 ∷ send 1 0 5 ∷ send 1 0 6 ∷ start 0 ∷ start 1 ∷ recv 0 1 ∷ recv 0 1 ∷ [])
       ≡ entry_line 0 0 (1 ∷ 0 ∷ []) ∷ entry_line 0 0 (2 ∷ 0 ∷ []) ∷ entry_line 0 0 (3 ∷ 0 ∷ []) ∷ no_line 6 ∷ entry_line 0 1 (0 ∷ 1 ∷ []) ∷ no_line 6
-      ∷ mode_line 0 0 mute ∷ mode_line 0 1 mute ∷ receipt_line 0 0 (4 ∷ 1 ∷ []) 1 ∷ mode_line 1 0 standBy ∷ []
+      ∷ mode_line 0 0 mute ∷ mode_line 0 1 mute ∷ receipt_line 0 0 (4 ∷ 1 ∷ []) 1 ∷ mode_line 1 0 stand_by ∷ []
   -- a link holds two items more than its limit: a message, a req and a done (one more only: 2)
-  pub two_more_places : lines strict (send 0 1 1 ∷ start 0 ∷ start 1 ∷ recv 0 1 ∷ []) ≡ entry_line 0 0 (1 ∷ 0 ∷ []) ∷ mode_line 0 0 mute ∷ mode_line 0 1 mute ∷ mode_line 1 0 standBy ∷ []
+  pub two_more_places : lines strict (send 0 1 1 ∷ start 0 ∷ start 1 ∷ recv 0 1 ∷ []) ≡ entry_line 0 0 (1 ∷ 0 ∷ []) ∷ mode_line 0 0 mute ∷ mode_line 0 1 mute ∷ mode_line 1 0 stand_by ∷ []
   -- a third send on a limit of 2
   pub third_send : lines pair (send 0 1 1 ∷ send 0 1 2 ∷ send 0 1 3 ∷ []) ≡ entry_line 0 0 (1 ∷ 0 ∷ []) ∷ entry_line 0 0 (2 ∷ 0 ∷ []) ∷ no_line 6 ∷ []
   -- a mute station sends nothing and starts nothing, and enters

@@ -3,7 +3,7 @@ use Rattle.std.specs.Prelude.{ℕ, ◌≡◌, refl, List, [], ◌∷◌, ◌++�
 use Rattle.codec.specs.Every.{sum, greatest}
 use Rattle.reset.specs.Config.{Config}
 use Rattle.reset.specs.Clock.{vector}
-use Rattle.reset.specs.State.{normal, mute, State, resetReq, station_at}
+use Rattle.reset.specs.State.{normal, mute, State, reset_req, station_at}
 use Rattle.reset.specs.Steps.{Step, enter, send, recv, start, step}
 use Rattle.reset.specs.Network.{initial, log, run, quiescent}
 use Rattle.reset.specs.Receipts.{greatest_target, under_way, receipts_to_rest, accepted_in}
@@ -77,7 +77,7 @@ pub record LentNumbers : Type 0 where
   -- a station that aims past the last phase, and one in phase 0
   pub far_apart : LentNumber (with (held 0 0 mute 999999 0 0 false false)) 2000002
   -- a control item under way is no message: it is not looked at
-  pub item-alone : LentNumber (on 1 0 (resetReq ∷ notes 2 0 0) (with (held 0 0 normal 0 0 0 false true))) 2
+  pub item-alone : LentNumber (on 1 0 (reset_req ∷ notes 2 0 0) (with (held 0 0 normal 0 0 0 false true))) 2
 
 pub lent-numbers : LentNumbers
 unfolding to_rest

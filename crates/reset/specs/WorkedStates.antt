@@ -6,7 +6,7 @@ use Rattle.clock.specs.Timestamp.{zeros}
 use Rattle.reset.specs.Reach.{limit, linked, apart, joins, first, unseen, spread_by, every_reached}
 use Rattle.reset.specs.Config.{Config, allowances_fit, limits_fit, well_made, zero_diagonal, linked_both_ways, nothing_above, within_ceiling, network_rules}
 use Rattle.reset.specs.Clock.{vector, timestamp_fits}
-use Rattle.reset.specs.State.{Mode, normal, mute, standBy, Item, message, resetReq, resetDone, Station, State, blank_station, with_time, with_phase, with_sent, with_reqs, with_dones, set_station, set_link}
+use Rattle.reset.specs.State.{Mode, normal, mute, stand_by, Item, message, reset_req, reset_done, Station, State, blank_station, with_time, with_phase, with_sent, with_reqs, with_dones, set_station, set_link}
 use Rattle.reset.specs.Steps.{Step, enter, send, recv, start}
 use Rattle.reset.specs.Network.{initial, run, stations_quiescent, links_empty, quiescent}
 use Rattle.reset.specs.WellFormed.{sent_fits, marks_fit, station_fits, link_fits, shape_fits, well_formed}
@@ -126,7 +126,7 @@ pub record States : Type 0 where
   -- well formed: the initial state, the one after the listing, and the greatest of each number
   pub initial-formed : formed (initial vector pair) ≡ true
   pub listing-formed : formed (run pair (initial vector pair) listing) ≡ true
-  pub greatest : formed (on 0 1 (notes 4 7 7) (on 1 0 (resetReq ∷ resetDone ∷ notes 2 0 7) (with (held 7 7 standBy 999999 3 2 true true)))) ≡ true
+  pub greatest : formed (on 0 1 (notes 4 7 7) (on 1 0 (reset_req ∷ reset_done ∷ notes 2 0 7) (with (held 7 7 stand_by 999999 3 2 true true)))) ≡ true
   -- a count above t; of a station n or above; nine counts
   pub wrong_count : (formed (with (held 8 0 normal 0 0 0 false true)) ≡ false)
       × (formed (with (counting (0 ∷ 0 ∷ 1 ∷ replicate 5 0))) ≡ false)
@@ -146,7 +146,7 @@ pub record States : Type 0 where
       × (formed (set_station (initial vector pair) 2 (held 1 0 normal 0 0 0 false false)) ≡ false)
       × (formed (set_station (initial vector pair) 8 (held 0 0 normal 0 0 0 false false)) ≡ false)
   -- a link with more items than places; with one where there is no link; a message's count or register number out of range
-  pub wrong_link : (formed (on 0 1 (notes 5 0 0) (initial vector pair)) ≡ false) × (formed (on 0 0 (resetReq ∷ []) (initial vector pair)) ≡ false)
+  pub wrong_link : (formed (on 0 1 (notes 5 0 0) (initial vector pair)) ≡ false) × (formed (on 0 0 (reset_req ∷ []) (initial vector pair)) ≡ false)
   -- the places of a link are those of its own direction: five from 0 to 1, three back
   pub wrong_direction : (formed_in (skewed 8) (on 1 0 (notes 3 0 0) (on 0 1 (notes 5 0 0) (initial vector (skewed 8)))) ≡ true)
       × (formed_in (skewed 8) (on 1 0 (notes 4 0 0) (initial vector (skewed 8))) ≡ false) × (formed_in (skewed 8) (on 0 1 (notes 6 0 0) (initial vector (skewed 8))) ≡ false)
@@ -185,14 +185,14 @@ pub record LentSteps : Type 0 where
   -- 8 in phase 999,999, and not before it; 5 comes before 8
   pub start_at_last : Lent (with (held 0 0 normal 999999 0 0 false true)) (start 0 ∷ start 1 ∷ []) (no_line 8 ∷ mode_line 0 1 mute ∷ [])
   pub start_before : Lent (with (held 0 0 normal 999998 0 0 false true)) (start 0 ∷ []) (mode_line 999998 0 mute ∷ [])
-  pub five_before_eight : Lent (with (held 0 0 standBy 999999 0 0 false true)) (start 0 ∷ []) (no_line 5 ∷ [])
+  pub five_before_eight : Lent (with (held 0 0 stand_by 999999 0 0 false true)) (start 0 ∷ []) (no_line 5 ∷ [])
   -- 2 where a bound would be met: rule c in the last phase; a count at the ceiling, for each kind of entry; a full link, at a send, a start, and a receipt
   -- by which rule c or rule a puts a control item on it. The state is left: the next step finds it so
-  pub phase-beyond : Lent (on 1 0 (resetReq ∷ []) (with (held 0 0 normal 999999 0 0 false true))) (recv 0 1 ∷ enter 0 1 ∷ []) (no_line 2 ∷ entry_line 999999 0 (1 ∷ 0 ∷ []) ∷ [])
+  pub phase-beyond : Lent (on 1 0 (reset_req ∷ []) (with (held 0 0 normal 999999 0 0 false true))) (recv 0 1 ∷ enter 0 1 ∷ []) (no_line 2 ∷ entry_line 999999 0 (1 ∷ 0 ∷ []) ∷ [])
   pub count-beyond : Lent (on 1 0 (notes 1 0 0) (with (held 7 0 normal 0 2 1 false true))) (enter 0 1 ∷ send 0 1 1 ∷ recv 0 1 ∷ []) (no_line 2 ∷ no_line 2 ∷ no_line 2 ∷ [])
   pub item-beyond : Lent (on 0 1 (notes 4 0 0) (with (held 0 0 normal 0 0 0 false true))) (send 0 1 1 ∷ start 0 ∷ recv 1 0 ∷ send 0 1 1 ∷ []) (no_line 2 ∷ no_line 2 ∷ receipt_line 0 1 (0 ∷ 1 ∷ []) 0 ∷ entry_line 0 0 (1 ∷ 0 ∷ []) ∷ [])
-  pub item-beyond_by_c : Lent (on 0 1 (notes 4 0 0) (on 1 0 (resetReq ∷ []) (with (held 0 0 normal 0 0 0 false true)))) (recv 0 1 ∷ recv 0 1 ∷ []) (no_line 2 ∷ no_line 2 ∷ [])
-  pub item-beyond_by_a : Lent (on 0 1 (notes 4 0 0) (on 1 0 (resetReq ∷ []) (with (held 0 0 mute 0 0 0 false true)))) (recv 0 1 ∷ recv 0 1 ∷ []) (no_line 2 ∷ no_line 2 ∷ [])
+  pub item-beyond_by_c : Lent (on 0 1 (notes 4 0 0) (on 1 0 (reset_req ∷ []) (with (held 0 0 normal 0 0 0 false true)))) (recv 0 1 ∷ recv 0 1 ∷ []) (no_line 2 ∷ no_line 2 ∷ [])
+  pub item-beyond_by_a : Lent (on 0 1 (notes 4 0 0) (on 1 0 (reset_req ∷ []) (with (held 0 0 mute 0 0 0 false true)))) (recv 0 1 ∷ recv 0 1 ∷ []) (no_line 2 ∷ no_line 2 ∷ [])
   -- it comes last: after 4, 7, 5, 8 and 6
   pub four_before_bound : Lent (with (held 7 0 normal 0 0 0 false true)) (send 0 0 1 ∷ enter 2 1 ∷ []) (no_line 4 ∷ no_line 4 ∷ [])
   pub seven_before_bound : Lent (with (held 7 0 normal 0 0 0 false true)) (recv 0 1 ∷ []) (no_line 7 ∷ [])
@@ -203,7 +203,7 @@ pub record LentSteps : Type 0 where
   pub own-count : Lent (on 1 0 (notes 1 5 3) (with (held 2 1 normal 0 0 0 false true))) (recv 0 1 ∷ []) (receipt_line 0 0 (3 ∷ 3 ∷ []) 1 ∷ [])
   pub others_greater : Lent (on 1 0 (notes 1 5 3) (with (held 2 4 normal 0 0 0 false true))) (recv 0 1 ∷ []) (receipt_line 0 0 (3 ∷ 4 ∷ []) 0 ∷ [])
   -- three rules in a row, b, c and a: a reset at once, into the next phase's stand-by
-  pub three_in_a_row : Lent (on 1 0 (resetDone ∷ []) (with (held 1 0 standBy 4 1 0 true false))) (recv 0 1 ∷ recv 1 0 ∷ recv 1 0 ∷ recv 1 0 ∷ []) (mode_line 5 0 standBy ∷ mode_line 1 1 standBy ∷ mode_line 1 1 normal ∷ no_line 7 ∷ [])
+  pub three_in_a_row : Lent (on 1 0 (reset_done ∷ []) (with (held 1 0 stand_by 4 1 0 true false))) (recv 0 1 ∷ recv 1 0 ∷ recv 1 0 ∷ recv 1 0 ∷ []) (mode_line 5 0 stand_by ∷ mode_line 1 1 stand_by ∷ mode_line 1 1 normal ∷ no_line 7 ∷ [])
 
 pub lent_steps : LentSteps
 unfolding formed lines_from
@@ -251,11 +251,11 @@ pub record UnderWay : Type 0 where
   -- a reset: no while it lasts, and yes in the next phase; then no again, while a message of that phase is under way
   pub resetting : (quiescent pair (run pair (initial vector pair) (start 0 ∷ [])) ≡ false) × StillAfter pair whole_reset true × StillAfter pair (whole_reset ++ (send 1 0 1 ∷ [])) false
   -- a control item alone, which steps from an initial network put on no link of normal stations in one phase
-  pub control : Still pair (on 0 1 (resetReq ∷ []) (initial vector pair)) false × Still pair (on 1 0 (resetDone ∷ []) (initial vector pair)) false
+  pub control : Still pair (on 0 1 (reset_req ∷ []) (initial vector pair)) false × Still pair (on 1 0 (reset_done ∷ []) (initial vector pair)) false
   -- a done is received there
-  pub done-received : Still pair (run pair (on 1 0 (resetDone ∷ []) (initial vector pair)) (recv 0 1 ∷ [])) true
+  pub done-received : Still pair (run pair (on 1 0 (reset_done ∷ []) (initial vector pair)) (recv 0 1 ∷ [])) true
   -- the first and the last link of eight stations
-  pub each_end : Still winding (initial vector winding) true × Still winding (on 0 7 (resetDone ∷ []) (initial vector winding)) false
+  pub each_end : Still winding (initial vector winding) true × Still winding (on 0 7 (reset_done ∷ []) (initial vector winding)) false
       × Still winding (on 7 3 (notes 1 0 0) (initial vector winding)) false
   -- a lone station has no link: it is always at rest
   pub lone-rests : StillAfter lone [] true × StillAfter lone (enter 0 1 ∷ start 0 ∷ []) true

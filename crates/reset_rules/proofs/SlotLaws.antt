@@ -6,8 +6,8 @@ use mathlib.Core.Bool.{Bool, true, false, cond}
 use lib.ListN.{get_or}
 use Rattle.reset.specs.Config.{Config, neighbours}
 use Rattle.reset.specs.Clock.{vector}
-use Rattle.reset.specs.State.{Mode, normal, mute, standBy, Station, req_seen, done_seen}
-use Rattle.reset.specs.Steps.{every_neighbour, some_neighbour, Rule, ruleA, ruleB, ruleC, noRule, rule_of, applied, begun, renewed}
+use Rattle.reset.specs.State.{Mode, normal, mute, stand_by, Station, req_seen, done_seen}
+use Rattle.reset.specs.Steps.{every_neighbour, some_neighbour, Rule, rule_a, rule_b, rule_c, no_rule, rule_of, applied, begun, renewed}
 use Rattle.reset.proofs.Views.{none_at}
 use Rattle.reset.proofs.TurnLaws.{some_none}
 use Rattle.reset_rules.specs.Turn.{Turning, turned_by, turned_once, turned_all, turned, started}
@@ -17,25 +17,25 @@ use Rattle.reset_rules.proofs.SeenLaws.{every_seen_lem, some_seen_lem}
 
 -- ---- one rule, by the mode and a flag: whether the marks are seen, in the row of limits
 module _ (c : Config) (i : ℕ) (t : Slots) (b : Bool) {row : List ℕ} (r : get_or c.limits i [] ≡ row) {f : Bool} where
-  pub once_mute : t.station.mode ≡ mute → f ≡ every_seen row t.station.reqs → f ≡ b → slot_by t (cond b ruleA noRule) ≡ slot_once c i t
+  pub once_mute : t.station.mode ≡ mute → f ≡ every_seen row t.station.reqs → f ≡ b → slot_by t (cond b rule_a no_rule) ≡ slot_once c i t
   unfolding slot_once
   once_mute e h g = rw (e, every_seen_lem c i row r t.station.reqs, ← h, g)
 
-  pub once-stand_by : t.station.mode ≡ standBy → f ≡ every_seen row t.station.dones → f ≡ b → slot_by t (cond b ruleB noRule) ≡ slot_once c i t
+  pub once-stand_by : t.station.mode ≡ stand_by → f ≡ every_seen row t.station.dones → f ≡ b → slot_by t (cond b rule_b no_rule) ≡ slot_once c i t
   unfolding slot_once
   once-stand_by e h g = rw (e, every_seen_lem c i row r t.station.dones, ← h, g)
 
-  pub once-normal : t.station.mode ≡ normal → f ≡ some_seen row t.station.reqs → f ≡ b → slot_by t (cond b ruleC noRule) ≡ slot_once c i t
+  pub once-normal : t.station.mode ≡ normal → f ≡ some_seen row t.station.reqs → f ≡ b → slot_by t (cond b rule_c no_rule) ≡ slot_once c i t
   unfolding slot_once
   once-normal e h g = rw (e, some_seen_lem c i row r t.station.reqs, ← h, g)
 
 -- ---- three rules in a row
 -- a rule does the same to the record, whatever was sent
 slot_station : (t : Slots) (r : Rule) → (slot_by t r).station ≡ applied t.station r
-slot_station t ruleA = refl
-slot_station t ruleB = refl
-slot_station t ruleC = refl
-slot_station t noRule = refl
+slot_station t rule_a = refl
+slot_station t rule_b = refl
+slot_station t rule_c = refl
+slot_station t no_rule = refl
 
 module _ (c : Config) (i : ℕ) where
   abbrev rule_at : Station vector → Rule
@@ -89,31 +89,31 @@ module _ (c : Config) (i : ℕ) where
 
     -- by the mode, and the marks that the first, second and third rule look at
     from_mute : x.mode ≡ mute → (u v : Bool) → qa ≡ u → da ≡ v → Same (fresh x)
-    from_mute e true true q d = three (fresh x) ruleA ruleB noRule (rw (e, q)) (rw d) (rw (no_req x)) refl
-    from_mute e true false q d = three (fresh x) ruleA noRule noRule (rw (e, q)) (rw d) (rw d) refl
-    from_mute e false v q d = three (fresh x) noRule noRule noRule (rw (e, q)) (rw (e, q)) (rw (e, q)) refl
+    from_mute e true true q d = three (fresh x) rule_a rule_b no_rule (rw (e, q)) (rw d) (rw (no_req x)) refl
+    from_mute e true false q d = three (fresh x) rule_a no_rule no_rule (rw (e, q)) (rw d) (rw d) refl
+    from_mute e false v q d = three (fresh x) no_rule no_rule no_rule (rw (e, q)) (rw (e, q)) (rw (e, q)) refl
 
-    from_stand_by : x.mode ≡ standBy → (u v w : Bool) → da ≡ u → qs ≡ v → qa ≡ w → Same (fresh x)
-    from_stand_by e true true true d r q = three (fresh x) ruleB ruleC ruleA (rw (e, d)) (rw r) (rw q) refl
-    from_stand_by e true true false d r q = three (fresh x) ruleB ruleC noRule (rw (e, d)) (rw r) (rw q) refl
-    from_stand_by e true false w d r q = three (fresh x) ruleB noRule noRule (rw (e, d)) (rw r) (rw r) refl
-    from_stand_by e false v w d r q = three (fresh x) noRule noRule noRule (rw (e, d)) (rw (e, d)) (rw (e, d)) refl
+    from_stand_by : x.mode ≡ stand_by → (u v w : Bool) → da ≡ u → qs ≡ v → qa ≡ w → Same (fresh x)
+    from_stand_by e true true true d r q = three (fresh x) rule_b rule_c rule_a (rw (e, d)) (rw r) (rw q) refl
+    from_stand_by e true true false d r q = three (fresh x) rule_b rule_c no_rule (rw (e, d)) (rw r) (rw q) refl
+    from_stand_by e true false w d r q = three (fresh x) rule_b no_rule no_rule (rw (e, d)) (rw r) (rw r) refl
+    from_stand_by e false v w d r q = three (fresh x) no_rule no_rule no_rule (rw (e, d)) (rw (e, d)) (rw (e, d)) refl
 
     from_normal : x.mode ≡ normal → (u v w : Bool) → qs ≡ u → qa ≡ v → db ≡ w → Same (fresh x)
-    from_normal e true true true r q d = three (fresh x) ruleC ruleA ruleB (rw (e, r)) (rw q) (rw d) refl
-    from_normal e true true false r q d = three (fresh x) ruleC ruleA noRule (rw (e, r)) (rw q) (rw d) refl
-    from_normal e true false w r q d = three (fresh x) ruleC noRule noRule (rw (e, r)) (rw q) (rw q) refl
-    from_normal e false v w r q d = three (fresh x) noRule noRule noRule (rw (e, r)) (rw (e, r)) (rw (e, r)) refl
+    from_normal e true true true r q d = three (fresh x) rule_c rule_a rule_b (rw (e, r)) (rw q) (rw d) refl
+    from_normal e true true false r q d = three (fresh x) rule_c rule_a no_rule (rw (e, r)) (rw q) (rw d) refl
+    from_normal e true false w r q d = three (fresh x) rule_c no_rule no_rule (rw (e, r)) (rw q) (rw q) refl
+    from_normal e false v w r q d = three (fresh x) no_rule no_rule no_rule (rw (e, r)) (rw (e, r)) (rw (e, r)) refl
 
     from_begin : (u v : Bool) → qa ≡ u → db ≡ v → Same (asked x)
-    from_begin true true q d = three (asked x) ruleA ruleB noRule (rw q) (rw d) (rw (no_req (begun x))) refl
-    from_begin true false q d = three (asked x) ruleA noRule noRule (rw q) (rw d) (rw d) refl
-    from_begin false v q d = three (asked x) noRule noRule noRule (rw q) (rw q) (rw q) refl
+    from_begin true true q d = three (asked x) rule_a rule_b no_rule (rw q) (rw d) (rw (no_req (begun x))) refl
+    from_begin true false q d = three (asked x) rule_a no_rule no_rule (rw q) (rw d) (rw d) refl
+    from_begin false v q d = three (asked x) no_rule no_rule no_rule (rw q) (rw q) (rw q) refl
 
     from : (m : Mode) → x.mode ≡ m → Same (fresh x)
     from normal e = from_normal e _ _ _ refl refl refl
     from mute e = from_mute e _ _ refl refl
-    from standBy e = from_stand_by e _ _ _ refl refl refl
+    from stand_by e = from_stand_by e _ _ _ refl refl refl
 
     -- three rules on the slots send what the rules send
     pub slots_turned : slot_items (slot_all c i (fresh x)) ≡ turned c i x
@@ -127,10 +127,10 @@ abbrev SlotsFit : Slots → Type 0
 SlotsFit t = (control_fits t.first ≡ true) × (control_fits t.second ≡ true)
 
 by_fits : (t : Slots) (r : Rule) → SlotsFit t → SlotsFit (slot_by t r)
-by_fits t ruleA h = (h.0, refl)
-by_fits t ruleB h = h
-by_fits t ruleC h = (refl, h.1)
-by_fits t noRule h = h
+by_fits t rule_a h = (h.0, refl)
+by_fits t rule_b h = h
+by_fits t rule_c h = (refl, h.1)
+by_fits t no_rule h = h
 
 module _ (c : Config) (i : ℕ) where
   once_fits : (t : Slots) → SlotsFit t → SlotsFit (slot_once c i t)

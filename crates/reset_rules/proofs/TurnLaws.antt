@@ -6,8 +6,8 @@ use mathlib.Core.Bool.{Bool, true, false, cond}
 use Rattle.codec.specs.Put.{put}
 use Rattle.reset.specs.Config.{Config, neighbours}
 use Rattle.reset.specs.Clock.{Clock}
-use Rattle.reset.specs.State.{Item, resetReq, resetDone, Station, State, blank_station, station_at, link_at, set_station, set_link, put_on, put_linked, put_first, put_on_all}
-use Rattle.reset.specs.Steps.{Rule, ruleA, ruleB, ruleC, noRule, rule_of, apply, begun, renewed, begin_reset, renew, wake, turn_once, turn}
+use Rattle.reset.specs.State.{Item, reset_req, reset_done, Station, State, blank_station, station_at, link_at, set_station, set_link, put_on, put_linked, put_first, put_on_all}
+use Rattle.reset.specs.Steps.{Rule, rule_a, rule_b, rule_c, no_rule, rule_of, apply, begun, renewed, begin_reset, renew, wake, turn_once, turn}
 use Rattle.reset.proofs.Views.{station-set, station-put_all}
 use Rattle.reset_rules.specs.Turn.{Turning, turned_by, turned_once, turned_all, turned, started, put_items}
 
@@ -80,10 +80,10 @@ module _ {K : Clock} where
     -- a rule applied there
     apply_with : (s : State K) (t : Turning K) (r : Rule) → apply c i (with s t) r ≡ with s (turned_by t r)
     unfolding renew wake begin_reset
-    apply_with s t ruleA = rw (station_with, set_with) (put_items_lem (set_station s i (renewed t.station)) t.items (resetDone ∷ []))
-    apply_with s t ruleB = rw (station_with, set_with, append-nil)
-    apply_with s t ruleC = rw (station_with, set_with) (put_items_lem (set_station s i (begun t.station)) t.items (resetReq ∷ []))
-    apply_with s t noRule = rw append-nil
+    apply_with s t rule_a = rw (station_with, set_with) (put_items_lem (set_station s i (renewed t.station)) t.items (reset_done ∷ []))
+    apply_with s t rule_b = rw (station_with, set_with, append-nil)
+    apply_with s t rule_c = rw (station_with, set_with) (put_items_lem (set_station s i (begun t.station)) t.items (reset_req ∷ []))
+    apply_with s t no_rule = rw append-nil
 
     once_with : (s : State K) (t : Turning K) → turn_once c i (with s t) ≡ with s (turned_once c i t)
     unfolding turn_once turned_once
@@ -102,4 +102,4 @@ module _ {K : Clock} where
     pub start_set : (s : State K)
         → turn c i (begin_reset c i s) ≡ put_items c (set_station s i (started c i (station_at s i)).station) i (started c i (station_at s i)).items
     unfolding begin_reset
-    start_set s = turn_with s (record { station = begun (station_at s i); items = resetReq ∷ [] })
+    start_set s = turn_with s (record { station = begun (station_at s i); items = reset_req ∷ [] })

@@ -3,8 +3,8 @@ use Rattle.std.specs.Prelude.{ℕ, List, [], ◌∷◌, ◌++◌, Bool, false, c
 use Rattle.codec.specs.Every.{every, some}
 use Rattle.reset.specs.Config.{Config}
 use Rattle.reset.specs.Clock.{vector}
-use Rattle.reset.specs.State.{Item, resetReq, resetDone, Station}
-use Rattle.reset.specs.Steps.{Rule, ruleA, ruleB, ruleC, noRule, rule_of, begun, renewed, woken}
+use Rattle.reset.specs.State.{Item, reset_req, reset_done, Station}
+use Rattle.reset.specs.Steps.{Rule, rule_a, rule_b, rule_c, no_rule, rule_of, begun, renewed, woken}
 use Rattle.station.specs.View.{station_view}
 use Rattle.reset_rules.specs.Turn.{Turning}
 use Rattle.reset_rules.specs.declared.Turned.{Turned}
@@ -28,7 +28,7 @@ abbrev pub done_number : ℕ
 done_number = 3
 
 abbrev pub control_of : ℕ → List (Item vector)
-control_of k = cond (eqb k req_number) (resetReq ∷ []) (cond (eqb k done_number) (resetDone ∷ []) [])
+control_of k = cond (eqb k req_number) (reset_req ∷ []) (cond (eqb k done_number) (reset_done ∷ []) [])
 
 -- the number of a control item, or 0 for none
 abbrev pub control_fits : ℕ → Bool
@@ -60,10 +60,10 @@ asked x = record { station = begun x; first = req_number; second = no_item }
 
 -- a rule applied: reset_req goes into the first slot, reset_done into the second
 abbrev pub slot_by : Slots → Rule → Slots
-slot_by t ruleA = record { station = renewed t.station; first = t.first; second = done_number }
-slot_by t ruleB = record { station = woken t.station; first = t.first; second = t.second }
-slot_by t ruleC = record { station = begun t.station; first = req_number; second = t.second }
-slot_by t noRule = t
+slot_by t rule_a = record { station = renewed t.station; first = t.first; second = done_number }
+slot_by t rule_b = record { station = woken t.station; first = t.first; second = t.second }
+slot_by t rule_c = record { station = begun t.station; first = req_number; second = t.second }
+slot_by t no_rule = t
 
 -- the first rule that applies to station i, once; three times
 unfoldable pub slot_once : Config → ℕ → Slots → Slots

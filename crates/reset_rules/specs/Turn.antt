@@ -3,8 +3,8 @@
 use Rattle.std.specs.Prelude.{ℕ, List, [], ◌∷◌, ◌++◌}
 use Rattle.reset.specs.Config.{Config}
 use Rattle.reset.specs.Clock.{Clock}
-use Rattle.reset.specs.State.{Item, resetReq, resetDone, Station, State, put_on_all}
-use Rattle.reset.specs.Steps.{Rule, ruleA, ruleB, ruleC, noRule, rule_of, applied, begun}
+use Rattle.reset.specs.State.{Item, reset_req, reset_done, Station, State, put_on_all}
+use Rattle.reset.specs.Steps.{Rule, rule_a, rule_b, rule_c, no_rule, rule_of, applied, begun}
 
 -- A record, and what was put on every link out so far.
 pub record Turning (K : Clock) : Type 0 where
@@ -13,10 +13,10 @@ pub record Turning (K : Clock) : Type 0 where
 
 -- what a rule puts on every link out: a reset_done, a begin reset_req
 abbrev pub sends : {K : Clock} → Rule → List (Item K)
-sends ruleA = resetDone ∷ []
-sends ruleB = []
-sends ruleC = resetReq ∷ []
-sends noRule = []
+sends rule_a = reset_done ∷ []
+sends rule_b = []
+sends rule_c = reset_req ∷ []
+sends no_rule = []
 
 -- a rule applied
 abbrev pub turned_by : {K : Clock} → Turning K → Rule → Turning K
@@ -35,7 +35,7 @@ abbrev pub turned : {K : Clock} → Config → ℕ → Station K → Turning K
 turned c i x = turned_all c i (record { station = x; items = [] })
 
 abbrev pub started : {K : Clock} → Config → ℕ → Station K → Turning K
-started c i x = turned_all c i (record { station = begun x; items = resetReq ∷ [] })
+started c i x = turned_all c i (record { station = begun x; items = reset_req ∷ [] })
 
 -- items put on every link out of i, one after the other
 abbrev pub put_items : {K : Clock} → Config → State K → ℕ → List (Item K) → State K

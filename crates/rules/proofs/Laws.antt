@@ -15,7 +15,7 @@ use Rattle.header.specs.Header.{row_in_range, limits_in_range, header_fits, tabl
 use Rattle.header.specs.declared.Header.{Header}
 use Rattle.header.proofs.Laws.{Typed, Table, table-rows, table-row, well_made_parts, parse_image, table-image, image-accepted}
 use Rattle.reset.specs.Reach.{limit}
-use Rattle.reset.specs.Config.{Config, size_fits, allowance_fits, allowances_fit, well_made, row_fits as rowFitsAt, limits_fit as tableFits}
+use Rattle.reset.specs.Config.{Config, size_fits, allowance_fits, allowances_fit, well_made, row_fits as row_fits_at, limits_fit as table_in_range}
 use Rattle.reset.proofs.ConfigLaws.{shape}
 use Rattle.rules.specs.Setup.{header_config, block_config, header_of}
 
@@ -26,9 +26,9 @@ allowances_fit_lem a n b =
     rw (eq-eqb _ 8 n)
     (every_of 8 (allowance_fits a) (λ (i : ℕ) (h : i < 8). let g = of_below 65536 a (omega arith) b i in le-leb (get_or a i 0) 65535 (omega arith)))
 
-table_fits : (m : List (List ℕ)) → Table m → tableFits m ≡ limits_in_range m
-unfolding tableFits limits_in_range row_in_range limit
-table_fits m y = rw (eq-eqb _ 8 y.rows) (every_same 8 (rowFitsAt m) (λ (i : ℕ). row_in_range (get_or m i [])) (λ (i : ℕ) (h : i < 8). rw (eq-eqb _ 8 (y.cells i h))))
+table_fits : (m : List (List ℕ)) → Table m → table_in_range m ≡ limits_in_range m
+unfolding table_in_range limits_in_range row_in_range limit
+table_fits m y = rw (eq-eqb _ 8 y.rows) (every_same 8 (row_fits_at m) (λ (i : ℕ). row_in_range (get_or m i [])) (λ (i : ℕ) (h : i < 8). rw (eq-eqb _ 8 (y.cells i h))))
 
 -- for fields of a header's types, one test is the other
 pub same_test : (h : Header) (m : List (List ℕ)) → Typed h → Table m → well_made (header_config h m) ≡ header_fits h m

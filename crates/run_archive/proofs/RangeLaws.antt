@@ -12,7 +12,7 @@ use Rattle.codec.proofs.NumLaws.{below_of}
 use Rattle.codec.proofs.EveryLaws.{both, every_at, every_of}
 use Rattle.codec.proofs.PutLaws.{put_same}
 use Rattle.clock.specs.Timestamp.{merged}
-use Rattle.clock.specs.Range.{ceiling_of, counts_fit as clockFits}
+use Rattle.clock.specs.Range.{ceiling_of, counts_fit as clock_fits}
 use Rattle.record.specs.Record.{peer_fits, record_fits}
 use Rattle.block_test.specs.BlockTest.{has_link, peer_known, record_known}
 use Rattle.reset.specs.Reach.{limit, linked}
@@ -60,8 +60,8 @@ module _ (c : Config) where
     unfolding timestamp_fits
     count_at_lem k l = every_at 8 (count_fits c c.t v) k (both (eqb (length v) 8) _ h).1 l
 
-    counts_known : clockFits c.n c.t v ≡ true
-    unfolding clockFits is_station
+    counts_known : clock_fits c.n c.t v ≡ true
+    unfolding clock_fits is_station
     counts_known = every_of 8 (λ (k : ℕ). leb (get_or v k 0) (ceiling_of c.n c.t k)) (λ (k : ℕ) (l : k < 8). count_at_lem k l)
 
   has_link_lem : (i j : ℕ) → neighbours c i j ≡ true → has_link c.limits i j ≡ true

@@ -20,7 +20,7 @@ use Rattle.reset.specs.Config.{Config, is_station, limit_at, allowance_at, size_
 use Rattle.reset.specs.Reach.{limit}
 use Rattle.reset.proofs.ConfigLaws.{shape}
 use Rattle.reset.specs.Clock.{vector, of_station, count_fits, timestamp_fits}
-use Rattle.reset.specs.State.{Mode, normal, mute, standBy, Station}
+use Rattle.reset.specs.State.{Mode, normal, mute, stand_by, Station}
 use Rattle.reset.specs.WellFormed.{mode_fits, phase_fits, own_fits, sent_fits_to, sent_fits, marks_fit, station_fits}
 use Rattle.station.specs.Image.{mark_byte, sent_of, marks_of, mode_byte, image_station, byte_at, mark_at, mode_of, parse_station, Ranged}
 use Rattle.station.specs.Test.{mark_fits, station_bytes_fit, station_test}
@@ -101,12 +101,12 @@ mark_small false = omega arith
 mode-forth : (m : Mode) → mode_of (mode_byte m) ≡ m
 mode-forth normal = refl
 mode-forth mute = refl
-mode-forth standBy = refl
+mode-forth stand_by = refl
 
 mode_small : (m : Mode) → mode_byte m ≤ 2
 mode_small normal = omega arith
 mode_small mute = omega arith
-mode_small standBy = omega arith
+mode_small stand_by = omega arith
 
 module _ (x : Station vector) where
   -- the places of the pieces

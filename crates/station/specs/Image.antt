@@ -5,7 +5,7 @@ use Rattle.codec.specs.Num.{bytes_of, num_at, nums_of, nums_at}
 use Rattle.codec.specs.Rows.{upto}
 use Rattle.header.specs.Header.{bytes_at}
 use Rattle.reset.specs.Clock.{vector}
-use Rattle.reset.specs.State.{Mode, normal, mute, standBy, Station}
+use Rattle.reset.specs.State.{Mode, normal, mute, stand_by, Station}
 
 -- ---- the size of a record in bytes
 abbrev pub station_size : ℕ
@@ -27,7 +27,7 @@ marks_of l = upto 8 (λ (j : ℕ). mark_byte (get_or l j false))
 abbrev pub mode_byte : Mode → ℕ
 mode_byte normal = 0
 mode_byte mute = 1
-mode_byte standBy = 2
+mode_byte stand_by = 2
 
 -- the 47 bytes of a record, whatever the lengths of its lists
 unfoldable pub image_station : Station vector → List ℕ
@@ -43,7 +43,7 @@ abbrev pub mark_at : List ℕ → ℕ → ℕ → Bool
 mark_at l at j = not (eqb (byte_at l at j) 0)
 
 abbrev pub mode_of : ℕ → Mode
-mode_of b = cond (eqb b 1) mute (cond (eqb b 2) standBy normal)
+mode_of b = cond (eqb b 1) mute (cond (eqb b 2) stand_by normal)
 
 -- the record that 47 bytes stand for
 unfoldable pub parse_station : List ℕ → Station vector

@@ -19,7 +19,7 @@ use Rattle.reset.specs.Config.{Config, places, neighbours}
 use Rattle.reset.specs.Clock.{Clock, vector}
 use Rattle.reset.specs.State.{Item, State, station_at, link_at, set_link, message, Station, set_station, put_on_all}
 use Rattle.reset.proofs.Formed.{Bounds, bounds, in_bounds_lem}
-use Rattle.reset.specs.Steps.{phase_bounded, count_bounded, link_bounded, in_bounds, entered, sending, receiving, do_enter, do_send, do_receive, Rule, ruleA, ruleB, ruleC, noRule, rule_of, applied}
+use Rattle.reset.specs.Steps.{phase_bounded, count_bounded, link_bounded, in_bounds, entered, sending, receiving, do_enter, do_send, do_receive, Rule, rule_a, rule_b, rule_c, no_rule, rule_of, applied}
 use Rattle.reset.proofs.Cases.{by_dec, by_test}
 use Rattle.reset.proofs.Views.{link_set_lem, link_set-row, link_set_col, station-set, station-set-other, link_set-station, station-set_link, zeros_at, station-put_all, link-put_all, link-put_all_far, link-put_all_row}
 use Rattle.reset_rules.specs.Turn.{Turning, turned_once, turned_all, turned, started, put_items}
@@ -163,10 +163,10 @@ abbrev Within : ℕ → Station vector → Type 0
 Within t x = (k : ℕ) → k < 8 → get_or x.time k 0 ≤ t
 
 applied-within : (t : ℕ) (x : Station vector) (r : Rule) → Within t x → Within t (applied x r)
-applied-within t x ruleA h = λ k l. rw zeros_at (omega arith)
-applied-within t x ruleB h = h
-applied-within t x ruleC h = h
-applied-within t x noRule h = h
+applied-within t x rule_a h = λ k l. rw zeros_at (omega arith)
+applied-within t x rule_b h = h
+applied-within t x rule_c h = h
+applied-within t x no_rule h = h
 
 module _ (c : Config) (i : ℕ) where
   once-within : (u : Turning vector) → Within c.t u.station → Within c.t (turned_once c i u).station

@@ -1,7 +1,7 @@
 -- The code's answers as the network's. Assumes nothing.
 use Rattle.std.specs.Prelude.{replicate}
 use Rattle.record.specs.declared.Record.{Record}
-use Rattle.reset.specs.State.{Mode, normal, mute, standBy}
+use Rattle.reset.specs.State.{Mode, normal, mute, stand_by}
 use Rattle.reset.specs.Steps.{Entry, Answer, refused, entry, mode_after}
 use Rattle.station.specs.declared.Mode.{Mode as CodeMode}
 use Rattle.station.specs.declared.Mode.TheVariants.{Normal, Mute, StandBy}
@@ -11,7 +11,7 @@ use Rattle.step_parts.specs.declared.answer.Stepped.{Stepped}
 abbrev pub mode_code : Mode → CodeMode
 mode_code normal = Normal
 mode_code mute = Mute
-mode_code standBy = StandBy
+mode_code stand_by = StandBy
 
 -- the record of an accepted entry; its news is not in it
 abbrev pub event_record : Entry → Record

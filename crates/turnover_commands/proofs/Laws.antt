@@ -10,7 +10,7 @@ use denote.Enum.Declared.{tag_of}
 use Rattle.codec.specs.Num.{AreBytes}
 use Rattle.codec.specs.Written.{Written}
 use Rattle.reset.specs.Clock.{vector}
-use Rattle.reset.specs.State.{normal, mute, standBy}
+use Rattle.reset.specs.State.{normal, mute, stand_by}
 use Rattle.reset.specs.Steps.{Step, Answer, refused, entry, mode_after}
 use Rattle.reset.specs.Network.{initial}
 use Rattle.reset.specs.WellFormed.{step_fits}
@@ -81,7 +81,7 @@ same_text number i n (refused k) = refl
 same_text number i n (entry e) = refl
 same_text number i n (mode_after j normal p) = refl
 same_text number i n (mode_after j mute p) = refl
-same_text number i n (mode_after j standBy p) = refl
+same_text number i n (mode_after j stand_by p) = refl
 
 pub told_text : (number i n : ℕ) (s : Stepped) (x : Answer) → s ≡ stepped_of x → code_text number i n s.event s.answer ≡ step_text number i n x
 told_text number i n s x e = ap (λ (y : Stepped). code_text number i n y.event y.answer) e ∙ same_text number i n x

@@ -9,7 +9,7 @@ use mathlib.Core.Bool.{true, false, cond}
 use lib.ListN.{length, set, length-set}
 use borrow.Author.Tests.{lt-ltb}
 use Rattle.codec.specs.Every.{blank}
-use Rattle.codec.specs.Written.{Written, wrote, refused as refusedWith}
+use Rattle.codec.specs.Written.{Written, wrote, refused as refused_with}
 use Rattle.codec.proofs.NumLaws.{Below}
 use Rattle.codec.proofs.SpliceLaws.{splice-length}
 use Rattle.header.specs.Header.{header_fits, table_at, write_header}
@@ -117,7 +117,7 @@ module _ (s : Standing) (u : Unset s) where
   out_of_range e = rw (sym same ∙ e)
 
   in_range : well_made network ≡ true
-      → set_up s.block s.area s.run ≡ cond (network_rules network) (wrote (image network (initial vector network))) (refusedWith 3 (blank 65536))
+      → set_up s.block s.area s.run ≡ cond (network_rules network) (wrote (image network (initial vector network))) (refused_with 3 (blank 65536))
   unfolding set_up settings_block
   in_range w = rw u.empty (set_up_lem network s.block refl u.long w)
 

@@ -8,7 +8,7 @@ ghost use Rattle.lists.specs.Lists.{Arranged, same};
 ghost use Rattle.archive.specs.Archive.{archive_test, records as records_of};
 ghost use Rattle.events.specs.Places.{InPlace};
 ghost use Rattle.well_kept.specs.WellKept.{well_kept};
-ghost use Rattle.well_kept.specs.Keys.{key_at, no_key, follows as followsOn, runs_on, last_from};
+ghost use Rattle.well_kept.specs.Keys.{key_at, no_key, follows as follows_on, runs_on, last_from};
 ghost use Rattle.well_kept.specs.Windows.{Gathered};
 
 use events::Place;
@@ -41,7 +41,7 @@ fn key_of(a: &[u8], p: Place) -> u64
 
 // Key v is as it must be where p is the greatest key below it.
 fn follows(p: u64, v: u64) -> bool
-    ensures { result ≡ followsOn p v }
+    ensures { result ≡ follows_on p v }
 {
     if v <= p {
         return false;

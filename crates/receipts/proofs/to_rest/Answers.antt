@@ -5,7 +5,7 @@ use mathlib.Core.Bool.{true}
 use native.Mathlib.Omega.{arith}
 use Rattle.reset.specs.Receipts.{receipts_to_rest}
 use Rattle.area.specs.Layout.{config_at, state_at, test}
-use Rattle.area_calls.specs.Calls.{receiptsLeft, receipts_on}
+use Rattle.area_calls.specs.Calls.{receipts_left, receipts_on}
 use Rattle.receipts.proofs.Laws.{long, n_small, to_rest_is}
 use Rattle.receipts.proofs.to_rest.Goals as goal
 use Rattle.receipts.proofs.to_rest.Goals.{Else-not-well_formed}
@@ -33,7 +33,7 @@ returns c =
     let m = c.messages_under_way-messages in
     let g = c.greatest_target in
     let n : m.result + c.all_controls-controls.result ≡ receipts_to_rest (config_at (a (goal.at.returns c).Else-not-well_formed)) (state_at (a (goal.at.returns c).Else-not-well_formed)) = to_rest_is (a (goal.at.returns c).Else-not-well_formed) (passed (goal.at.returns c).Else-not-well_formed) h.result h.ensures _ _ _ m.ensures.0 g.ensures.0 c.all_controls-controls.ensures.0 in
-    rw (passed (goal.at.returns c).Else-not-well_formed) (ap receiptsLeft (omega arith))
+    rw (passed (goal.at.returns c).Else-not-well_formed) (ap receipts_left (omega arith))
 
 pub slice_bounds-load-end : goal.slice_bounds-load-end
 slice_bounds-load-end c = omega (arith, long _ (passed (goal.at.slice_bounds-load-end c).Else-not-well_formed))

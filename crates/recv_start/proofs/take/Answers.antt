@@ -4,7 +4,7 @@ use mathlib.Core.List.{List, ◌∷◌}
 use native.Mathlib.Omega.{arith}
 use Rattle.reset.specs.Config.{Config}
 use Rattle.reset.specs.Clock.{vector}
-use Rattle.reset.specs.State.{Item, resetReq, resetDone, Station, State, station_at, link_at}
+use Rattle.reset.specs.State.{Item, reset_req, reset_done, Station, State, station_at, link_at}
 use Rattle.reset.specs.Steps.{with_req, with_done, bounded, do_mark}
 use Rattle.link.specs.Image.{item_view}
 use Rattle.station.specs.View.{station_view}
@@ -55,7 +55,7 @@ take_control-requires c =
 pub returns-then-x-eq-RESET_REQ : goal.returns-then-x-eq-RESET_REQ
 returns-then-x-eq-RESET_REQ c =
     let e : station_view c.with_req.result ≡ with_req (j (o (goal.at.returns-then-x-eq-RESET_REQ c).After-load_station-s)) (station_at (s (o (goal.at.returns-then-x-eq-RESET_REQ c).After-load_station-s)) (i (o (goal.at.returns-then-x-eq-RESET_REQ c).After-load_station-s))) = c.with_req.ensures.0 ∙ ap (with_req (j (o (goal.at.returns-then-x-eq-RESET_REQ c).After-load_station-s))) (sym (x (goal.at.returns-then-x-eq-RESET_REQ c).After-load_station-s)) in
-    c.take_control.ensures resetReq _ (first (goal.at.returns-then-x-eq-RESET_REQ c).After-load_station-s resetReq (is_req _ c.if-x-eq-RESET_REQ.true)) (ap (λ (x : Station vector). x.time) e) (marks (goal.at.returns-then-x-eq-RESET_REQ c).After-load_station-s _ _ e)
+    c.take_control.ensures reset_req _ (first (goal.at.returns-then-x-eq-RESET_REQ c).After-load_station-s reset_req (is_req _ c.if-x-eq-RESET_REQ.true)) (ap (λ (x : Station vector). x.time) e) (marks (goal.at.returns-then-x-eq-RESET_REQ c).After-load_station-s _ _ e)
 
 pub take_control-requires-then-x-eq-RESET_DONE : goal.take_control-requires-then-x-eq-RESET_DONE
 take_control-requires-then-x-eq-RESET_DONE c =
@@ -65,7 +65,7 @@ take_control-requires-then-x-eq-RESET_DONE c =
 pub returns-then-x-eq-RESET_DONE : goal.returns-then-x-eq-RESET_DONE
 returns-then-x-eq-RESET_DONE c =
     let e : station_view c.with_done.result ≡ with_done (j (o (goal.at.returns-then-x-eq-RESET_DONE c).After-load_station-s)) (station_at (s (o (goal.at.returns-then-x-eq-RESET_DONE c).After-load_station-s)) (i (o (goal.at.returns-then-x-eq-RESET_DONE c).After-load_station-s))) = c.with_done.ensures.0 ∙ ap (with_done (j (o (goal.at.returns-then-x-eq-RESET_DONE c).After-load_station-s))) (sym (x (goal.at.returns-then-x-eq-RESET_DONE c).After-load_station-s)) in
-    c.take_control-then-x-eq-RESET_DONE.ensures resetDone _ (first (goal.at.returns-then-x-eq-RESET_DONE c).After-load_station-s resetDone (is_done _ c.if-x-eq-RESET_DONE.true)) (ap (λ (x : Station vector). x.time) e) (marks (goal.at.returns-then-x-eq-RESET_DONE c).After-load_station-s _ _ e)
+    c.take_control-then-x-eq-RESET_DONE.ensures reset_done _ (first (goal.at.returns-then-x-eq-RESET_DONE c).After-load_station-s reset_done (is_done _ c.if-x-eq-RESET_DONE.true)) (ap (λ (x : Station vector). x.time) e) (marks (goal.at.returns-then-x-eq-RESET_DONE c).After-load_station-s _ _ e)
 
 pub returns : goal.returns
 returns c =
