@@ -1,21 +1,20 @@
 -- Laws of the collecting step and of all steps. Assumes nothing.
-use Prim.Native.Nat.{ℕ, zero, suc, ◌+◌, ◌*◌, ◌/◌, ◌%◌, ◌≤◌, ◌<◌}
+use Prim.Native.Nat.{ℕ, ◌+◌, ◌*◌, ◌/◌, ◌%◌, ◌≤◌, ◌<◌}
 use mathlib.Core.Path.{◌≡◌, refl, sym, ap, ◌∙◌}
 use mathlib.Core.Logic.{⊎_elim}
 use mathlib.Core.List.{List}
-use mathlib.Core.Bool.{Bool, true, false, ◌&&◌, cond, true≢false}
+use mathlib.Core.Bool.{true, false, ◌&&◌, cond, true≢false}
 use native.Mathlib.Omega.{arith}
 use native.Mathlib.Numerals.{add-one}
 use native.Mathlib.Nat.{eq-or-lt_of_le}
 use native.Mathlib.Decide.{ℕ_discrete}
 use lib.Dec.{eqb, ltb}
 use lib.ListN.{length, get_or, take, drop, length-take, length-drop}
-use borrow.Author.Tests.{eqb-true, eq-eqb, ne_eqb, lt-ltb, ltb-true}
+use borrow.Author.Tests.{eq-eqb, ne_eqb, lt-ltb}
 use lib.Seq.{drop-drop}
 use Rattle.codec.specs.Splice.{splice}
-use Rattle.codec.specs.Every.{some, count_below}
-use Rattle.codec.proofs.EveryLaws.{both, bool_iff}
-use Rattle.codec.proofs.SomeLaws.{some_same, some_of, some_not, some_holds, some_fails}
+use Rattle.codec.specs.Every.{count_below}
+use Rattle.codec.proofs.SomeLaws.{some_same, some_of, some_not}
 use Rattle.codec.proofs.CountLaws.{grow, count_same, count-passed, count_failed, count_none}
 use Rattle.codec.proofs.SpliceLaws.{splice-length}
 use Rattle.entries.specs.Entries.{count_of, stored_number, record_of}
@@ -23,7 +22,7 @@ use Rattle.archive.specs.Archive.{block_of, blocks, archive_test, records, recor
 use Rattle.archive.proofs.Laws.{block_parts}
 use Rattle.archive.proofs.Tested.{block-numbers, record_place, records-most}
 use Rattle.events.proofs.Laws.{block-length}
-use Rattle.fetch.specs.Fetch.{holds, copy_at, copied, Collected, collected, wanted, fetched_below, fetched, Collects, EveryStep, holds_named, Fetches, EveryFetch}
+use Rattle.fetch.specs.Fetch.{holds, copy_at, copied, Collected, collected, wanted, fetched_below, Collects, EveryStep, holds_named, EveryFetch}
 use Rattle.fetch.proofs.PartLaws.{spliced_part, spliced_before, spliced_behind}
 
 -- ---- one number more

@@ -1,9 +1,9 @@
 -- What a splice leaves of a list: the part that it wrote, those before it and those behind it. Assumes nothing.
 use Prim.Native.Nat.{ℕ, ◌+◌, ◌-◌, ◌≤◌}
-use mathlib.Core.Path.{◌≡◌, ◌∙◌, sym}
+use mathlib.Core.Path.{◌≡◌}
 use mathlib.Core.List.{List, ◌++◌, append_assoc}
 use native.Mathlib.Omega.{arith}
-use lib.ListN.{length, take, drop, length-append, length-take, length-drop}
+use lib.ListN.{length, take, drop, length-append, length-drop}
 use lib.Seq.{length-take-le, take_at, drop_at, take-take, take-append-le, drop-append-le, drop-drop}
 use Rattle.codec.specs.Splice.{splice}
 use Rattle.codec.proofs.SpliceLaws.{drop_past, drop-take}
