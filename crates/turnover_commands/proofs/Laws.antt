@@ -3,6 +3,8 @@ use Prim.Native.Nat.{ℕ}
 use mathlib.Core.Path.{◌≡◌, refl, sym, ◌∙◌, ap, subst}
 use mathlib.Core.List.{List, [], ◌∷◌}
 use mathlib.Core.Bool.{Bool, true, false, cond}
+use mathlib.Core.Logic.{◌⊎◌, inl, inr}
+use borrow.Author.Rules.{rules}
 use lib.Dec.{eqb}
 use borrow.Author.Tests.{eqb-false}
 use types.Run.{OneOf, miss}
@@ -95,6 +97,32 @@ module _ {old : List ℕ} {at : ℕ} {r : Reply} {b a out : List ℕ} (s : Stand
   closed_stage t = subst (λ (x : Stage). Replies (closed_in x s) old at r b a out) (sym e) t
 
 -- ---- the commands, and the stages, of an arm that names none
+-- ---- which arm a command takes: `net` or none, not `net`, no step
+pub net_or_bad : (c : Command) → ((n : ℕ) × (t : ℕ) × (c ≡ Net n t)) ⊎ (c ≡ Bad) → OneOf (0 ∷ 7 ∷ []) (tag_of commands c)
+net_or_bad c (inl (n, t, e)) = rw e (inl refl)
+net_or_bad c (inr e) = rw e (inr refl)
+
+pub not_net : (c : Command) → ((n t : ℕ) → c ≡ Net n t → ⊥) → OneOf (1 ∷ 2 ∷ 3 ∷ 4 ∷ 5 ∷ 6 ∷ 7 ∷ []) (tag_of commands c)
+not_net (Net n t) h = absurd (h n t refl)
+not_net (Allow i a) h = search rules
+not_net (Link i j l) h = search rules
+not_net (Enter i g) h = search rules
+not_net (Send i j g) h = search rules
+not_net (Recv i j) h = search rules
+not_net (Start i) h = search rules
+not_net Bad h = search rules
+
+pub no_step : (c : Command) → ((i g : ℕ) → c ≡ Enter i g → ⊥) → ((i j g : ℕ) → c ≡ Send i j g → ⊥) → ((i j : ℕ) → c ≡ Recv i j → ⊥) → ((i : ℕ) → c ≡ Start i → ⊥)
+    → OneOf (0 ∷ 1 ∷ 2 ∷ 7 ∷ []) (tag_of commands c)
+no_step (Net n t) e s r b = search rules
+no_step (Allow i a) e s r b = search rules
+no_step (Link i j l) e s r b = search rules
+no_step (Enter i g) e s r b = absurd (e i g refl)
+no_step (Send i j g) e s r b = absurd (s i j g refl)
+no_step (Recv i j) e s r b = absurd (r i j refl)
+no_step (Start i) e s r b = absurd (b i refl)
+no_step Bad e s r b = search rules
+
 pub opening_bad : (s : Standing) (c : Command) → OneOf (1 ∷ 2 ∷ 3 ∷ 4 ∷ 5 ∷ 6 ∷ 7 ∷ []) (tag_of commands c) → opening s c ≡ bad_line s
 opening_bad s (Net n t) h = absurd (miss (1 ∷ 2 ∷ 3 ∷ 4 ∷ 5 ∷ 6 ∷ 7 ∷ []) 0 tt h)
 opening_bad s (Allow i a) h = refl
