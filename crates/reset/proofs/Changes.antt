@@ -1,6 +1,6 @@
 -- What a step changes, told in one statement, so that later theorems never open a step: it is refused and changes nothing; or it makes no entry, and moves no
 -- message; or it makes an entry, and at most one message moves. Assumes nothing.
-use Prim.Native.Nat.{ℕ, suc, ◌<◌, ◌+◌}
+use Prim.Native.Nat.{ℕ, suc, ◌<◌}
 use mathlib.Core.Path.{◌≡◌}
 use mathlib.Core.Logic.{◌≢◌}
 use mathlib.Core.List.{List, [], ◌∷◌, ◌++◌}

@@ -1,6 +1,6 @@
 -- What changes leave of the number of receipts to rest: what stations have taken, the messages under way, and the greatest target. The reset rules leave
 -- all of it; and what is read off a station's record is what it has received. Assumes nothing.
-use Prim.Native.Nat.{ℕ, suc, ◌+◌, ◌-◌, ◌≤◌, ◌<◌}
+use Prim.Native.Nat.{ℕ, suc, ◌+◌, ◌≤◌, ◌<◌}
 use mathlib.Core.Path.{◌≡◌, refl, sym, ap, ◌∙◌}
 use mathlib.Core.Logic.{◌≢◌}
 use mathlib.Core.List.{List, [], ◌∷◌}

@@ -1,9 +1,6 @@
-use Prim.Native.Nat.{◌+◌, ◌*◌, ◌-◌, ◌<◌}
+use Prim.Native.Nat.{◌+◌, ◌*◌, ◌-◌}
 use mathlib.Core.Path.{◌≡◌, ◌∙◌, sym}
-use mathlib.Core.Logic.{⊎_elim}
 use native.Mathlib.Omega.{arith}
-use borrow.Author.Tests.{not-false}
-use lib.ListN.{get_or}
 use Rattle.rules.specs.Setup.{block_config}
 use Rattle.link.proofs.Laws.{places_most}
 use Rattle.area.proofs.Runs.{read_none, idle_turn, busy_turn, stop_turn, runs_end}

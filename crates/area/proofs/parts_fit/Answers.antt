@@ -2,7 +2,6 @@ use mathlib.Core.Path.{◌≡◌, ◌∙◌, sym}
 use Rattle.reset.specs.Config.{network_rules}
 use Rattle.rules.specs.Setup.{block_config}
 use Rattle.area.specs.Layout.{parts_test}
-use borrow.Author.Rules.{rules}
 use Rattle.area.proofs.parts_fit.Goals as goal
 use Rattle.area.proofs.parts_fit.Goals.{After-setup_fits}
 

@@ -8,7 +8,6 @@ use Rattle.events.proofs.Laws.{block-length}
 use Rattle.fetch.specs.Fetch.{copied}
 use Rattle.fetch.proofs.Laws.{copied-long, fetched_none, fetched_more, fetched-skips}
 use Rattle.fetch.proofs.collect_all.Goals as goal
-use Rattle.fetch.proofs.collect_all.Goals.{In-loop-next}
 
 pub overflow_sub-blocks : goal.overflow_sub-blocks
 overflow_sub-blocks c = omega (arith, test-long _ c.requires.0)

@@ -8,7 +8,7 @@ use Rattle.events.specs.Events.{event_at, station_at, own_at}
 use Rattle.events.proofs.Laws.{station-small}
 use Rattle.phase_order.proofs.PassLaws.{table_none}
 use Rattle.phase_order.proofs.lasts.Goals as goal
-use Rattle.phase_order.proofs.lasts.Goals.{After-event_of-e, After-next_place-p, At-loop-p, In-loop-p}
+use Rattle.phase_order.proofs.lasts.Goals.{After-event_of-e}
 
 -- ---- where a record has been read
 module _ (c : goal.After-event_of-e) where

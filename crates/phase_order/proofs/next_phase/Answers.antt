@@ -11,7 +11,6 @@ use Rattle.events.specs.Events.{event_at, station_at}
 use Rattle.events.proofs.Laws.{station-small}
 use Rattle.phase_order.specs.Passes.{meets, NoneMeets}
 use Rattle.phase_order.proofs.next_phase.Goals as goal
-use Rattle.phase_order.proofs.next_phase.Goals.{In-loop-p}
 
 -- one record more, which is e
 none_more : {a r : List ℕ} {f g n : ℕ} → NoneMeets a r f g n → (h : ℕ) (e : Record) → h ≤ g → event_at a n ≡ e → (f ≤ e.phase → e.phase < h → get_or r e.station 0 ≡ 0 → meets r e.counts ≡ false) → NoneMeets a r f h (n + 1)

@@ -9,7 +9,7 @@ use Rattle.events.proofs.Laws.{station-small, own_some}
 use Rattle.phase_order.specs.ByNumber.{order_of}
 use Rattle.phase_order.proofs.Laws.{order_is}
 use Rattle.phase_order.proofs.order_of.Goals as goal
-use Rattle.phase_order.proofs.order_of.Goals.{After-if-not, Else-n-second}
+use Rattle.phase_order.proofs.order_of.Goals.{Else-n-second}
 
 -- ---- where it has both records
 module _ (c : goal.Else-n-second) where

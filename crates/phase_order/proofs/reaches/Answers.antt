@@ -10,7 +10,7 @@ use Rattle.phase_order.specs.Passes.{NoneMeets}
 use Rattle.phase_order.proofs.ReachLaws.{skips, early-yes, last_told}
 use Rattle.phase_order.proofs.reaches.Invariants.{Reached}
 use Rattle.phase_order.proofs.reaches.Goals as goal
-use Rattle.phase_order.proofs.reaches.Goals.{After-next_phase-next, At-loop-from}
+use Rattle.phase_order.proofs.reaches.Goals.{At-loop-from}
 
 reached-skips : {a : List ℕ} {x : Record} {f : ℕ} {r : List ℕ} → Reached a x f r → (g : ℕ) → f ≤ g → NoneMeets a r f g (records a) → Reached a x g r
 reached-skips {a} {x} {f} w g l h =

@@ -5,7 +5,6 @@ use mathlib.Core.Bool.{true, ◌&&◌}
 use native.Mathlib.Omega.{arith}
 use lib.Dec.{leb}
 use lib.ListN.{length}
-use borrow.Author.Tests.{not-false}
 use Rattle.reset.specs.Clock.{vector}
 use Rattle.reset.specs.State.{Station, station_at}
 use Rattle.reset.specs.Steps.{is_normal}
@@ -17,7 +16,6 @@ use Rattle.step_outcomes.proofs.Outcome.{start_no_station, start_forbidden, star
 use Rattle.area.specs.Layout.{config_at, state_at}
 use Rattle.step_parts.proofs.Read.{Passed, passed, refuses, AtStation, at_station, no_station, station_is}
 use Rattle.step_parts.proofs.TurnedLaws.{tests, room_after, settled}
-use borrow.Author.Rules.{rules}
 use Rattle.recv_start.proofs.start.Goals as goal
 use Rattle.recv_start.proofs.start.Goals.{After-header_of-h, After-in_bounds, After-is_normal, Else-s-ge-LAST_PHASE, Else-wide32-station}
 

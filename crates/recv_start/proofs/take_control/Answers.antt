@@ -14,7 +14,6 @@ use Rattle.area.proofs.Parts.{image-length}
 use Rattle.step_parts.proofs.Read.{AtLink, refuses, count_most}
 use Rattle.recv_start.proofs.ReceiptLaws.{rest, first_is, out_same, held}
 use Rattle.step_parts.proofs.TurnedLaws.{tests, room_after, settled}
-use borrow.Author.Rules.{rules}
 use Rattle.recv_start.proofs.take_control.Goals as goal
 use Rattle.recv_start.proofs.take_control.Goals.{After-slice_known-1, After-turn-t, Start}
 

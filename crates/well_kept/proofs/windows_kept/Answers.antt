@@ -13,7 +13,7 @@ use Rattle.well_kept.specs.Keys.{keys_in}
 use Rattle.well_kept.specs.Windows.{Gathered, Checked}
 use Rattle.well_kept.proofs.DriverLaws.{checked_none, checked_all, window_kept, window_not, too_many}
 use Rattle.well_kept.proofs.windows_kept.Goals as goal
-use Rattle.well_kept.proofs.windows_kept.Goals.{After-gather-w, After-sorted_run-r, Else-not-r}
+use Rattle.well_kept.proofs.windows_kept.Goals.{After-gather-w, After-sorted_run-r}
 
 -- ---- where a window has been gathered
 module _ (c : goal.After-gather-w) where
