@@ -7,6 +7,8 @@ ghost use Rattle.codec.specs.Every.{blank as Blank};
 ghost use Rattle.turnover_commands.specs.Run.{standing, Ready};
 ghost use Rattle.turnover_session.specs.Turnover.{Passes, Prints};
 
+use std::io::{Read, Write};
+use std::rt::Clock;
 use turnover_session::Taken;
 use turnover_settings::Run;
 
@@ -40,7 +42,9 @@ fn settled(t: Taken, failed: bool) -> Reading
 }
 
 // The bytes of one read: as many as the buffer has room for the answers of, then those answers written, and so on.
-fn feed(
+fn feed<W: Write>(
+    output: &mut W,
+    clock: &impl Clock,
     bytes: &[u8],
     line: &mut [u8],
     block: &mut [u8],
@@ -63,7 +67,7 @@ fn feed(
         let before = t.run;
         t = turnover_parts::take_lines(line, t.have, bytes, t.next, block, area, out, 0, before);
         let end = t.end;
-        if !turnover_io::put(&out[..end]) {
+        if !turnover_io::put(output, clock, &out[..end]) {
             return settled(t, true);
         }
     }
@@ -71,7 +75,10 @@ fn feed(
 }
 
 // One read, and what it brings.
-fn turn(
+fn turn<R: Read, W: Write>(
+    input: &mut R,
+    output: &mut W,
+    clock: &impl Clock,
     bytes: &mut [u8],
     line: &mut [u8],
     block: &mut [u8],
@@ -85,21 +92,44 @@ fn turn(
 {
     let have = s.have;
     let run = s.run;
-    let got = turnover_io::get(bytes);
-    if got <= 0 {
-        return Reading {
+    match turnover_io::get(input, clock, bytes) {
+        Ok(0) => Reading {
             have,
             open: false,
-            failed: got < 0,
+            failed: false,
             run,
-        };
+        },
+        Ok(n) => feed(
+            output,
+            clock,
+            &bytes[..n],
+            line,
+            block,
+            area,
+            out,
+            have,
+            run,
+        ),
+        Err(_) => Reading {
+            have,
+            open: false,
+            failed: true,
+            run,
+        },
     }
-    let n = io::count(got, &bytes[..]);
-    feed(&bytes[..n], line, block, area, out, have, run)
 }
 
 // Nothing says that the input ends, so the reads are counted down as well.
-fn run(bytes: &mut [u8], line: &mut [u8], block: &mut [u8], area: &mut [u8], out: &mut [u8]) -> Last
+fn run<R: Read, W: Write>(
+    input: &mut R,
+    output: &mut W,
+    clock: &impl Clock,
+    bytes: &mut [u8],
+    line: &mut [u8],
+    block: &mut [u8],
+    area: &mut [u8],
+    out: &mut [u8],
+) -> Last
     requires { (length line.old ≡ 32) × (block.old ≡ Blank 512) × (area.old ≡ Blank 65536) × (length out.old ≡ 65536) }
     ensures prints { result.failed ≡ false → Prints out.new result.end }
     ensures end_bound { result.end ≤ 65536 }
@@ -113,7 +143,7 @@ fn run(bytes: &mut [u8], line: &mut [u8], block: &mut [u8], area: &mut [u8], out
     let mut turns = u64::MAX;
     while turns > 0 {
         turns -= 1;
-        s = turn(bytes, line, block, area, out, s);
+        s = turn(input, output, clock, bytes, line, block, area, out, s);
         let failed = s.failed;
         if failed {
             return Last { end: 0, failed };
@@ -131,13 +161,24 @@ fn run(bytes: &mut [u8], line: &mut [u8], block: &mut [u8], area: &mut [u8], out
     }
 }
 
-fn main() {
+fn main(rt: HostRuntime) {
+    let mut input = rt.reader();
+    let mut output = std::io::writer(&rt);
     let mut bytes = io::large_buffer();
     let mut line = [0u8; 32];
     let mut block = turnover_settings::block();
     let mut area = turnover_settings::area();
     let mut out = io::large_buffer();
-    let last = run(&mut bytes, &mut line, &mut block, &mut area, &mut out);
+    let last = run(
+        &mut input,
+        &mut output,
+        &rt,
+        &mut bytes,
+        &mut line,
+        &mut block,
+        &mut area,
+        &mut out,
+    );
     let end = last.end;
-    turnover_io::put(&out[..end]);
+    turnover_io::put(&mut output, &rt, &out[..end]);
 }
