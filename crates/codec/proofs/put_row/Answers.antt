@@ -13,8 +13,8 @@ loop-i-preserved c =
     let a = c.args in
     let l = c.loop-i in (
       omega arith,
-      omega (arith, c.put16.auto.d),
-      nums_turn 2 a.d.now a.c _ _ a.at l.i (a.at + 2 * l.i) (omega arith) (omega arith) l.invariant.2 c.put16.ensures,
+      omega (arith, c.put.auto.d),
+      nums_turn 2 a.d.now a.c _ _ a.at l.i (a.at + 2 * l.i) (omega arith) (omega arith) l.invariant.2 c.put.ensures,
     )
 
 pub returns : goal.returns

@@ -7,6 +7,3 @@ use Rattle.codec.proofs.put_row.Given as goal
 
 abbrev pub invariant-loop-i : goal.invariant-loop-i
 invariant-loop-i l = (l.i ≤ 8) × (length l.d ≡ length l.initial.d) × (l.d ≡ splice l.initial.d l.at (nums_of 2 l.i l.c))
-
-abbrev pub decreases-loop-i : goal.decreases-loop-i
-decreases-loop-i l = 8 - l.i

@@ -4,8 +4,5 @@ use Rattle.codec.specs.Every.{total}
 use Rattle.codec.proofs.EveryLaws.{Alike}
 use Rattle.codec.proofs.zeros.Given as goal
 
-abbrev pub invariant-loop-i : goal.invariant-loop-i
-invariant-loop-i l = (l.i ≤ length l.s) × Alike l.acc (total (take l.i l.s))
-
-abbrev pub decreases-loop-i : goal.decreases-loop-i
-decreases-loop-i l = length l.s - l.i
+abbrev pub invariant-loop-x : goal.invariant-loop-x
+invariant-loop-x l = (l.x-index ≤ length l.s) × Alike l.acc (total (take l.x-index l.s))

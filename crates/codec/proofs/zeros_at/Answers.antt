@@ -1,10 +1,10 @@
 use Prim.Native.Nat.{◌+◌, ◌-◌}
 use mathlib.Core.Path.{◌≡◌}
 use native.Mathlib.Omega.{arith}
-use Rattle.codec.proofs.piece.Goals as goal
+use Rattle.codec.proofs.zeros_at.Goals as goal
 
 pub returns : goal.returns
-returns c =
+returns g c =
     let at = c.args.at in
-    let e : at + 512 - at ≡ 512 = omega arith in
+    let e : at + g.row.N - at ≡ g.row.N = omega arith in
     rw e at c.zeros.ensures
