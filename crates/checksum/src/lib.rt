@@ -1,10 +1,12 @@
 // The check of a block: read, and written.
 #![tactic(auto)]
 
-ghost use Rattle.std.specs.Prelude.{◌≡◌, true, ◌&&◌, ◌+◌, ◌*◌, ◌<◌, ◌≤◌, length, take, drop};
+ghost use Rattle.std.specs.Prelude.{◌≡◌, true, List, ℕ, ◌&&◌, ◌+◌, ◌*◌, ◌<◌, ◌≤◌, length, take, drop};
 ghost use Rattle.codec.specs.Every.{all_zero};
 ghost use Rattle.checksum.specs.Check.{weighted, check_of, sealed as Sealed, seal_of};
 ghost use Rattle.checksum.specs.Columns.{column_share, column_sum, column_rows, columns_to, Columns};
+
+use codec::Number;
 
 // A block in bytes.
 pub const BLOCK: usize = 512;
@@ -22,7 +24,7 @@ fn share(k: u32, low: u16, high: u16) -> u32
     requires { (k < 32) × (low ≤ 3825) × (high ≤ 53550) }
     ensures { (result ≡ 32 * high + (k + 1) * low) × (result ≤ 1836000) }
 {
-    32 * (high as u32) + (k + 1) * ((low % 4096) as u32)
+    32 * u32::from(high) + (k + 1) * u32::from(low % 4096)
 }
 
 // Column j of the first 480 bytes, which are 15 rows of 32, from the last row to the first: each sum is added to the
@@ -33,27 +35,41 @@ fn column(s: &[u8], j: usize) -> Sums
 {
     let mut low: u16 = 0;
     let mut high: u16 = 0;
-    let mut r: usize = 15;
-    while 0 < r {
-        r -= 1;
+    for r in (0..15usize).rev() {
         high += low;
-        low += codec::wide16(s[r * 32 + j]);
+        low += u16::from(s[r * 32 + j]);
     }
     Sums { low, high }
 }
 
-// Adds up the columns from `from` to before `end`, where those before `from` are there. They are vectorised: eight at a
-// time, in 16 bits.
-pub fn fill_columns(s: &[u8], from: usize, end: usize, lows: &mut [u16; 32], highs: &mut [u16; 32])
-    requires { (480 ≤ length s.now) × (from ≤ end) × (end ≤ 32) × Columns s.now from lows.old highs.old }
-    ensures { Columns s.now end lows.new highs.new }
-{
-    let mut j = from;
-    while j < end {
-        let c = column(s, j);
-        lows[j] = c.low;
-        highs[j] = c.high;
-        j += 1;
+// The sums of the 32 columns. They stand in two arrays, so that they are vectorised: eight at a time, in 16 bits.
+#[derive(Clone, Copy)]
+pub struct ColumnSums {
+    pub lows: [u16; 32],
+    pub highs: [u16; 32],
+}
+
+impl ColumnSums {
+    // Of no column yet.
+    pub fn new() -> ColumnSums
+        ensures { (l : List ℕ) → Columns l 0 result.lows result.highs }
+    {
+        ColumnSums {
+            lows: [0; 32],
+            highs: [0; 32],
+        }
+    }
+
+    // Adds up the columns from `from` to before `end`, where those before `from` are there.
+    pub fn fill(&mut self, s: &[u8], from: usize, end: usize)
+        requires { (480 ≤ length s.now) × (from ≤ end) × (end ≤ 32) × Columns s.now from self.old.lows self.old.highs }
+        ensures { Columns s.now end self.new.lows self.new.highs }
+    {
+        for j in from..end {
+            let c = column(s, j);
+            self.lows[j] = c.low;
+            self.highs[j] = c.high;
+        }
     }
 }
 
@@ -63,26 +79,21 @@ fn weigh_on(s: &[u8], i: u32, end: u32, sum: u32) -> u32
     ensures { (result ≡ weighted 1 (take end s.now)) × (result ≤ 130050 * end) }
 {
     let mut all = sum;
-    let mut k = i;
-    while k < end {
-        let at = k as usize;
-        all += (k + 1) * codec::wide32(s[at]);
-        k += 1;
+    for k in i..end {
+        all += (k + 1) * u32::from(s[k as usize]);
     }
     all
 }
 
 // The sum of the first 496 bytes, each times its place from 1, by their columns.
-fn weigh_columns(s: &[u8], lows: &[u16; 32], highs: &[u16; 32]) -> u32
-    requires { (510 ≤ length s.now) × Columns s.now 32 lows.now highs.now }
+fn weigh_columns(s: &[u8], sums: &ColumnSums) -> u32
+    requires { (510 ≤ length s.now) × Columns s.now 32 sums.now.lows sums.now.highs }
     ensures { (result ≡ weighted 1 (take 496 s.now)) × (result ≤ 64504800) }
 {
     let mut sum: u32 = 0;
-    let mut k: u32 = 0;
-    while k < 32 {
+    for k in 0..32u32 {
         let at = k as usize;
-        sum += share(k, lows[at], highs[at]);
-        k += 1;
+        sum += share(k, sums.lows[at], sums.highs[at]);
     }
     weigh_on(s, 480, 496, sum)
 }
@@ -93,10 +104,9 @@ fn weigh(s: &[u8]) -> u32
     requires { 510 ≤ length s.now }
     ensures { (result ≡ weighted 1 (take 510 s.now)) × (result ≤ 66325500) }
 {
-    let mut lows: [u16; 32] = [0; 32];
-    let mut highs: [u16; 32] = [0; 32];
-    fill_columns(s, 0, 32, &mut lows, &mut highs);
-    let sum = weigh_columns(s, &lows, &highs);
+    let mut sums = ColumnSums::new();
+    sums.fill(s, 0, 32);
+    let sum = weigh_columns(s, &sums);
     if codec::zeros(&s[496..510]) {
         return sum;
     }
@@ -116,16 +126,16 @@ pub fn sealed(s: &[u8]) -> bool
     requires { length s.now ≡ 512 }
     ensures { result ≡ Sealed s.now }
 {
-    codec::get16(s, 510) == check(s)
+    u16::get(s, 510) == check(s)
 }
 
 // The same by the columns of a block, with zeros in the fourteen bytes before the check, which then count for nothing.
-pub fn sealed_columns(s: &[u8], lows: &[u16; 32], highs: &[u16; 32]) -> bool
-    requires { (length s.now ≡ 512) × Columns s.now 32 lows.now highs.now }
+pub fn sealed_columns(s: &[u8], sums: &ColumnSums) -> bool
+    requires { (length s.now ≡ 512) × Columns s.now 32 sums.now.lows sums.now.highs }
     ensures { result ≡ (all_zero (take 14 (drop 496 s.now)) && Sealed s.now) }
 {
-    let sum = weigh_columns(s, lows, highs);
-    codec::zeros(&s[496..510]) & (codec::get16(s, 510) == ((1 + sum) % 65521) as u16)
+    let sum = weigh_columns(s, sums);
+    codec::zeros(&s[496..510]) & (u16::get(s, 510) == ((1 + sum) % 65521) as u16)
 }
 
 // What column j of three rows comes to, each byte times its place from 1: 16 bits hold it.
@@ -134,9 +144,9 @@ fn share_front(s: &[u8], j: u16) -> u16
     ensures { (result ≡ column_share 3 s.now j) × (result ≤ 48960) }
 {
     let at = j as usize;
-    let a = codec::wide16(s[at]);
-    let b = codec::wide16(s[32 + at]);
-    let c = codec::wide16(s[64 + at]);
+    let a = u16::from(s[at]);
+    let b = u16::from(s[32 + at]);
+    let c = u16::from(s[64 + at]);
     (j + 1) * (a + b + c) + 32 * (b + 2 * c)
 }
 
@@ -148,14 +158,12 @@ fn weigh_front(s: &[u8]) -> u32
 {
     let mut low: u16 = 0;
     let mut high: u16 = 0;
-    let mut i: u16 = 0;
-    while i < 32 {
+    for i in 0..32u16 {
         let x = share_front(s, i);
         low += x % 256;
         high += x / 256;
-        i += 1;
     }
-    (low as u32) + 256 * (high as u32)
+    u32::from(low) + 256 * u32::from(high)
 }
 
 // The same as `sealed`, for a block with zeros from byte 96 on, which count for nothing.
@@ -163,7 +171,7 @@ pub fn sealed_front(s: &[u8]) -> bool
     requires { (length s.now ≡ 512) × (all_zero (take 414 (drop 96 s.now)) ≡ true) }
     ensures { result ≡ Sealed s.now }
 {
-    codec::get16(s, 510) == ((1 + weigh_front(s)) % 65521) as u16
+    u16::get(s, 510) == ((1 + weigh_front(s)) % 65521) as u16
 }
 
 // Writes the check into a block's last two bytes.
@@ -172,5 +180,5 @@ pub fn seal(d: &mut [u8])
     ensures { d.new ≡ seal_of (take 510 d.old) }
 {
     let sum = check(d);
-    codec::put16(d, 510, sum);
+    sum.put(d, 510);
 }

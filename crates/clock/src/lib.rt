@@ -1,16 +1,17 @@
 // Timestamps: eight counts, one for each station.
 #![tactic(auto)]
 
-ghost use Rattle.std.specs.Prelude.{◌≡◌, max, ◌<◌, get_or};
+ghost use Rattle.std.specs.Prelude.{◌≡◌, ◌<◌, get_or};
 ghost use Rattle.clock.specs.Timestamp.{tick, merged, raised, news as News};
 ghost use Rattle.clock.specs.Order.{by_flags, verdict_of};
+ghost use Rattle.clock.specs.Numbers.{order_number};
 ghost use Rattle.clock.specs.Range.{ceiling_of, counts_fit};
 
 // The last phase: timestamps start again in each.
 pub const LAST_PHASE: u32 = 999999;
 
 // How the first of two timestamps stands to the second. Unordered: concurrent.
-#[derive(Clone, Copy)]
+#[derive(Clone, Copy, Debug, PartialEq, Eq)]
 pub enum Verdict {
     Before,
     After,
@@ -18,22 +19,29 @@ pub enum Verdict {
     Unordered,
 }
 
+// The number that stands for a verdict, where one is returned or written.
+impl From<Verdict> for u8 {
+    ghost from_gives = { λ verdict n. n ≡ order_number verdict };
+
+    fn from(verdict: Verdict) -> u8 {
+        match verdict {
+            Verdict::Before => 100,
+            Verdict::After => 101,
+            Verdict::Same => 102,
+            Verdict::Unordered => 103,
+        }
+    }
+}
+
 // By two flags: some count of the first is less; some is greater.
 fn decide(less: bool, greater: bool) -> Verdict
     ensures { result ≡ by_flags less greater }
 {
-    if less {
-        if greater {
-            Verdict::Unordered
-        } else {
-            Verdict::Before
-        }
-    } else {
-        if greater {
-            Verdict::After
-        } else {
-            Verdict::Same
-        }
+    match (less, greater) {
+        (true, true) => Verdict::Unordered,
+        (true, false) => Verdict::Before,
+        (false, true) => Verdict::After,
+        (false, false) => Verdict::Same,
     }
 }
 
@@ -43,20 +51,11 @@ pub fn compare(a: [u16; 8], b: [u16; 8]) -> Verdict
 {
     let mut less = false;
     let mut greater = false;
-    let mut k = 0;
-    while k < 8 {
-        less = less | (a[k] < b[k]);
-        greater = greater | (b[k] < a[k]);
-        k += 1;
+    for k in 0..8 {
+        less |= a[k] < b[k];
+        greater |= b[k] < a[k];
     }
     decide(less, greater)
-}
-
-// The greater of two counts.
-fn larger(x: u16, y: u16) -> u16
-    ensures { result ≡ max x y }
-{
-    if x < y { y } else { x }
 }
 
 // Each count the greater of the two.
@@ -64,10 +63,8 @@ pub fn merge(a: [u16; 8], b: [u16; 8]) -> [u16; 8]
     ensures { result ≡ merged a b }
 {
     let mut r = a;
-    let mut i = 0;
-    while i < 8 {
-        r[i] = larger(a[i], b[i]);
-        i += 1;
+    for i in 0..8 {
+        r[i] = a[i].max(b[i]);
     }
     r
 }
@@ -97,15 +94,8 @@ pub fn news(a: [u16; 8], b: [u16; 8], i: usize) -> u8
     ensures { result ≡ News i a b }
 {
     let mut grown: u8 = 0;
-    let mut j = 0;
-    while j < 8 {
-        let next = j + 1;
-        if j != i {
-            if a[j] < b[j] {
-                grown += 1;
-            }
-        }
-        j = next;
+    for j in 0..8 {
+        grown += u8::from((j != i) & (a[j] < b[j]));
     }
     grown
 }
@@ -122,11 +112,8 @@ pub fn counts_fit(a: [u16; 8], n: u8, t: u16) -> bool
     ensures { result ≡ counts_fit n t a }
 {
     let mut ok = true;
-    let mut j: u8 = 0;
-    while j < 8 {
-        let i = j as usize;
-        ok = ok & (a[i] <= ceiling(j, n, t));
-        j += 1;
+    for j in 0..8u8 {
+        ok &= a[usize::from(j)] <= ceiling(j, n, t);
     }
     ok
 }

@@ -7,6 +7,7 @@ use native.Mathlib.Omega.{arith}
 use native.Mathlib.Numerals.{add-one}
 use native.Mathlib.Nat.{eq-or-lt_of_le}
 use native.Mathlib.Decide.{dec_lt}
+use mir.Val.{bool_byte}
 use Rattle.codec.specs.Every.{count_below}
 
 module _ (p : ℕ → Bool) where
@@ -18,6 +19,14 @@ module _ (p : ℕ → Bool) where
   pub count_failed : (n : ℕ) → p n ≡ false → count_below (n + 1) p ≡ count_below n p
   unfolding count_below
   count_failed n e = rw (add-one, e)
+
+  -- with the test as a number
+  pub count_turn : (n : ℕ) → count_below (n + 1) p ≡ count_below n p + bool_byte (p n)
+  count_turn n = go (p n) refl
+    where
+      go : (t : Bool) → p n ≡ t → count_below (n + 1) p ≡ count_below n p + bool_byte t
+      go true e = count-passed n e
+      go false e = omega (arith, count_failed n e)
 
   -- induction, by cases of the test
   pub grow : (P : ℕ → Type 0) → P 0 → ((n : ℕ) → p n ≡ true → P n → P (n + 1)) → ((n : ℕ) → p n ≡ false → P n → P (n + 1)) → (n : ℕ) → P n

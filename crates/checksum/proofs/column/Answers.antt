@@ -8,7 +8,7 @@ pub loop-r-preserved : goal.loop-r-preserved
 loop-r-preserved c =
     let l = c.loop-r in
     let a = c.args in
-    let t = turn_rows a.s.now a.j l.r l.low l.high c.wide16-low.result (omega arith) c.wide16-low.ensures.0 l.invariant.3 l.invariant.4 in
+    let t = turn_rows a.s.now a.j l.r l.low l.high c.from-low.result (omega arith) c.from-low.ensures l.invariant.3 l.invariant.4 in
     (omega arith, omega arith, omega arith, t.0, t.1)
 
 pub returns : goal.returns

@@ -3,4 +3,4 @@ use Rattle.checksum.proofs.seal.Goals as goal
 
 pub returns : goal.returns
 returns c =
-    sealed_at c.args.d.now c.put16.new.d c.check-sum.result c.requires c.check-sum.ensures c.put16.ensures
+    sealed_at c.args.d.now c.put.new.d c.check-sum.result c.requires c.check-sum.ensures c.put.ensures

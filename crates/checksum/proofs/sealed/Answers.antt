@@ -3,4 +3,4 @@ use Rattle.checksum.proofs.sealed.Goals as goal
 
 pub returns : goal.returns
 unfolding sealed
-returns c = rw (c.get16.ensures, c.check.ensures)
+returns c = rw (c.get.ensures, c.check.ensures)

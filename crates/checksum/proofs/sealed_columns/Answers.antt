@@ -6,4 +6,4 @@ pub returns : goal.returns
 returns c =
     let s = c.args.s.now in
     let w = c.weigh_columns-sum in
-    rw (c.zeros.ensures, c.get16.ensures) (sealed-short s w.result (omega arith) w.ensures.0)
+    rw (c.zeros.ensures, c.get.ensures) (sealed-short s w.result (omega arith) w.ensures.0)

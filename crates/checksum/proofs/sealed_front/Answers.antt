@@ -12,4 +12,4 @@ returns c =
     let l = c.args.s.now in
     let e : c.weigh_front.result ≡ weighted 1 (take 510 l) =
     c.weigh_front.ensures.0 ∙ columns_are 3 l (omega arith) ∙ sym (zeros-behind l 96 414 (omega arith) c.requires.1) in
-    rw (c.get16.ensures, e)
+    rw (c.get.ensures, e)

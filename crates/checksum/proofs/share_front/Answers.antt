@@ -5,28 +5,28 @@ use Rattle.checksum.proofs.share_front.Goals as goal
 
 pub overflow_mul-result : goal.overflow_mul-result
 overflow_mul-result c =
-    let a = c.wide16-a.result in
-    let b = c.wide16-b.result in
-    let d = c.wide16-c.result in
+    let a = c.from-a.result in
+    let b = c.from-b.result in
+    let d = c.from-c.result in
     let j = c.args.j in
     let h : (j + 1) * (a + b + d) ≤ 24480 = share_small j (a + b + d) 765 (omega arith) (omega arith) in
     omega arith
 
 pub overflow_add-result-5 : goal.overflow_add-result-5
 overflow_add-result-5 c =
-    let a = c.wide16-a.result in
-    let b = c.wide16-b.result in
-    let d = c.wide16-c.result in
+    let a = c.from-a.result in
+    let b = c.from-b.result in
+    let d = c.from-c.result in
     let j = c.args.j in
     let h : (j + 1) * (a + b + d) ≤ 24480 = share_small j (a + b + d) 765 (omega arith) (omega arith) in
     omega arith
 
 pub returns : goal.returns
 returns c =
-    let a = c.wide16-a.result in
-    let b = c.wide16-b.result in
-    let d = c.wide16-c.result in
+    let a = c.from-a.result in
+    let b = c.from-b.result in
+    let d = c.from-c.result in
     let j = c.args.j in
     let h : (j + 1) * (a + b + d) ≤ 24480 = share_small j (a + b + d) 765 (omega arith) (omega arith) in
     let s = c.args.s.now in
-    (share_of_three s j a b d c.wide16-a.ensures.0 c.wide16-b.ensures.0 c.wide16-c.ensures.0, omega arith)
+    (share_of_three s j a b d c.from-a.ensures c.from-b.ensures c.from-c.ensures, omega arith)

@@ -4,9 +4,6 @@ use native.Mathlib.Omega.{arith}
 use Rattle.checksum.proofs.CheckLaws.{zeros-behind}
 use Rattle.checksum.proofs.weigh.Goals as goal
 
-pub fill_columns-requires : goal.fill_columns-requires
-fill_columns-requires c = (omega arith, omega arith, omega arith, (refl, refl, λ (k : ℕ) (h : k < 0). absurd (omega arith)))
-
 pub returns-then-zeros : goal.returns-then-zeros
 returns-then-zeros c =
     let w = c.weigh_columns-sum.ensures in

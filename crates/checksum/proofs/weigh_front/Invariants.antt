@@ -5,6 +5,3 @@ use Rattle.checksum.proofs.weigh_front.Given as goal
 
 abbrev pub invariant-loop-i : goal.invariant-loop-i
 invariant-loop-i l = (l.i ≤ 32) × (l.low ≤ 255 * l.i) × (l.high ≤ 191 * l.i) × (l.low + 256 * l.high ≡ columns_to 3 l.i l.s)
-
-abbrev pub decreases-loop-i : goal.decreases-loop-i
-decreases-loop-i l = 32 - l.i

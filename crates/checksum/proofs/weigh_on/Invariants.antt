@@ -6,6 +6,3 @@ use Rattle.checksum.proofs.weigh_on.Given as goal
 
 abbrev pub invariant-loop-k : goal.invariant-loop-k
 invariant-loop-k l = (l.k ≤ l.end) × (l.all ≤ 130050 * l.k) × (l.all ≡ weighted 1 (take l.k l.s))
-
-abbrev pub decreases-loop-k : goal.decreases-loop-k
-decreases-loop-k l = l.end - l.k

@@ -7,6 +7,3 @@ use Rattle.clock.proofs.compare.Given as goal
 
 abbrev pub invariant-loop-k : goal.invariant-loop-k
 invariant-loop-k l = (l.k ≤ 8) × (not l.less ≡ every l.k (no_greater_at l.b l.a)) × (not l.greater ≡ every l.k (no_greater_at l.a l.b))
-
-abbrev pub decreases-loop-k : goal.decreases-loop-k
-decreases-loop-k l = 8 - l.k

@@ -11,7 +11,7 @@ loop-j-init c = (omega arith, sym (every_none _))
 
 pub loop-j-preserved : goal.loop-j-preserved
 unfolding counts_fit
-loop-j-preserved c = (omega arith, rw (every_turn, c.loop-j.invariant.1, c.ceiling.ensures))
+loop-j-preserved c = (omega arith, rw (every_turn, c.loop-j.invariant.1, c.ceiling.ensures, c.from.ensures))
 
 pub returns : goal.returns
 unfolding counts_fit

@@ -8,6 +8,3 @@ use Rattle.clock.proofs.counts_fit.Given as goal
 
 abbrev pub invariant-loop-j : goal.invariant-loop-j
 invariant-loop-j l = (l.j ≤ 8) × (l.ok ≡ every l.j (λ (k : ℕ). leb (get_or l.a k 0) (ceiling_of l.n l.t k)))
-
-abbrev pub decreases-loop-j : goal.decreases-loop-j
-decreases-loop-j l = 8 - l.j

@@ -16,7 +16,7 @@ loop-i-preserved c =
     let a = c.args in
     let l = c.loop-i in
     let n : length a.a ≡ 8 = omega arith in
-    (omega arith, rw (l.invariant.1, c.larger.ensures, ← merged_at a.a a.b l.i (omega arith)) (copy_turn a.a (merged a.a a.b) l.i (omega (arith, merged-length a.a a.b)) (omega arith)))
+    (omega arith, rw (l.invariant.1, c.max.ensures, ← merged_at a.a a.b l.i (omega arith)) (copy_turn a.a (merged a.a a.b) l.i (omega (arith, merged-length a.a a.b)) (omega arith)))
 
 pub returns : goal.returns
 returns c =

@@ -7,6 +7,3 @@ use Rattle.clock.proofs.merge.Given as goal
 
 abbrev pub invariant-loop-i : goal.invariant-loop-i
 invariant-loop-i l = (l.i ≤ 8) × (l.r ≡ take l.i (merged l.a l.b) ++ drop l.i l.a)
-
-abbrev pub decreases-loop-i : goal.decreases-loop-i
-decreases-loop-i l = 8 - l.i

@@ -6,6 +6,3 @@ use Rattle.clock.proofs.news.Given as goal
 
 abbrev pub invariant-loop-j : goal.invariant-loop-j
 invariant-loop-j l = (l.j ≤ 8) × (l.grown ≡ count_below l.j (grew_at l.i l.a l.b))
-
-abbrev pub decreases-loop-j : goal.decreases-loop-j
-decreases-loop-j l = 8 - l.j
