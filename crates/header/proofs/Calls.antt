@@ -8,6 +8,8 @@ use lib.Dec.{ltb}
 use lib.ListN.{length, take, drop}
 use lib.Seq.{take_at}
 use borrow.Author.Tests.{ltb-false, le-ltb}
+use Rattle.std.specs.Prelude.{Ok, Err, replicate}
+use Rattle.refusals.specs.declared.Refusal.TheVariants.{Malformed}
 use Rattle.codec.specs.Num.{AreBytes}
 use Rattle.codec.specs.Splice.{splice}
 use Rattle.codec.specs.Written.{refused, wrote}
@@ -34,13 +36,13 @@ unfolding write_header
 accepted_is_written l d b h s = rw (accepted_fits l h, le-ltb (length d) 512 s, accepted_is_image l b h)
 
 -- the same by the calls alone: what the readers give of a block is written as that block
-pub read_is_written : (l d : List ℕ) → AreBytes l → (read_header l).refusal ≡ 0 → 512 ≤ length d → write_header (read_header l).header (read_limits l) d ≡ wrote (splice d 0 l)
+pub read_is_written : (l d : List ℕ) (h : Header) → AreBytes l → read_header l ≡ Ok h → 512 ≤ length d → write_header h (read_limits l) d ≡ wrote (splice d 0 l)
 unfolding read_header read_limits
-read_is_written l d b z s = go (well_made_header l) refl z
+read_is_written l d h b z s = go (well_made_header l) refl z
   where
-    go : (t : Bool) → well_made_header l ≡ t → (read_header l).refusal ≡ 0 → write_header (read_header l).header (read_limits l) d ≡ wrote (splice d 0 l)
-    go true e q = rw e (accepted_is_written l d b e s)
-    go false e q = let w = rw e at q in absurd (omega arith)
+    go : (t : Bool) → well_made_header l ≡ t → cond t (Ok (parse_header l)) (Err Malformed) ≡ Ok h → write_header h (cond t (table_at 8 l 32) (replicate 8 (replicate 8 0))) d ≡ wrote (splice d 0 l)
+    go true e q = let p : parse_header l ≡ h = cc in rw (← p) (accepted_is_written l d b e s)
+    go false e q = absurd (cc)
 
 -- ---- from the writer
 module _ (h : Header) (m : List (List ℕ)) (d : List ℕ) (done : (write_header h m d).answer ≡ 0) where
@@ -64,7 +66,7 @@ module _ (h : Header) (m : List (List ℕ)) (d : List ℕ) (done : (write_header
 
   module _ (typed : Typed h) (table : Table m) where
     -- what is written is read: n, t and the allowances
-    pub written_is_read : read_header (take 512 (write_header h m d).buffer) ≡ record { refusal = 0; header = h }
+    pub written_is_read : read_header (take 512 (write_header h m d).buffer) ≡ Ok h
     unfolding read_header
     written_is_read = rw (written-block, image-accepted h m typed table taken.0, parse_image h m typed)
 

@@ -1,5 +1,5 @@
 -- The header block (document 01, "Archive blocks"): 512 bytes with the network's fields. Assumes nothing.
-use Rattle.std.specs.Prelude.{ℕ, zero, suc, ◌+◌, ◌/◌, ◌%◌, List, [], ◌∷◌, ◌++◌, Bool, ◌&&◌, cond, eqb, leb, ltb, length, get_or, take, drop, replicate}
+use Rattle.std.specs.Prelude.{ℕ, zero, suc, ◌+◌, ◌/◌, ◌%◌, List, [], ◌∷◌, ◌++◌, Bool, ◌&&◌, cond, eqb, leb, ltb, length, get_or, take, drop, replicate, Result, Ok, Err}
 use Rattle.codec.specs.Num.{bytes_of, num_at, nums_of, nums_at}
 use Rattle.codec.specs.Splice.{splice}
 use Rattle.codec.specs.Rows.{upto}
@@ -7,7 +7,8 @@ use Rattle.codec.specs.Every.{every, all_zero, blank}
 use Rattle.checksum.specs.Check.{block_size, sealed, seal_of}
 use Rattle.codec.specs.Written.{Written, refused, wrote}
 use Rattle.header.specs.declared.Header.{Header}
-use Rattle.header.specs.declared.HeaderRead.{HeaderRead}
+use Rattle.refusals.specs.declared.Refusal.{Refusal}
+use Rattle.refusals.specs.declared.Refusal.TheVariants.{Malformed}
 
 -- ---- ranges
 -- a row of limits, each at most 32
@@ -60,11 +61,8 @@ write_header h m d =
     (cond (ltb (length d) block_size) (refused 11 d) (wrote (splice d 0 (image_header h m))))
     (refused 1 d)
 
-unfoldable pub read_header : List ℕ → HeaderRead
-read_header l =
-    cond (well_made_header l)
-    (record { refusal = 0; header = parse_header l })
-    (record { refusal = 1; header = record { n = 0; t = 0; allowances = replicate 8 0 } })
+unfoldable pub read_header : List ℕ → Result Header Refusal
+read_header l = cond (well_made_header l) (Ok (parse_header l)) (Err Malformed)
 
 unfoldable pub read_limits : List ℕ → List (List ℕ)
 read_limits l = cond (well_made_header l) (table_at 8 l 32) (replicate 8 (replicate 8 0))

@@ -4,47 +4,38 @@
 ghost use Rattle.std.specs.Prelude.{◌≡◌, [], ◌∷◌, ◌≤◌, ◌+◌, length, take, drop};
 ghost use Rattle.codec.specs.Every.{all_zero};
 ghost use Rattle.codec.specs.Splice.{splice};
+ghost use Rattle.refusals.specs.Numbers.{told};
 ghost use Rattle.header.specs.Header.{row_in_range, limits_in_range, header_fits, bytes_at, table_at, table_of, parse_header, well_made_header, image_header, write_header, read_header, read_limits};
 
+use codec::Number;
+use refusals::Refusal;
+
 // The fields of a header but for the limits, which stand beside it as an array of arrays.
-#[derive(Clone, Copy)]
+#[derive(Clone, Copy, Debug, PartialEq, Eq)]
 pub struct Header {
     pub n: u8,
     pub t: u16,
     pub allowances: [u16; 8],
 }
 
-// A refusal's number, or 0 and the fields.
-#[derive(Clone, Copy)]
-pub struct HeaderRead {
-    pub refusal: u8,
-    pub header: Header,
-}
-
 fn row_fits(row: [u8; 8]) -> bool
     ensures { result ≡ row_in_range row }
 {
-    (row[0] <= 32)
-        & (row[1] <= 32)
-        & (row[2] <= 32)
-        & (row[3] <= 32)
-        & (row[4] <= 32)
-        & (row[5] <= 32)
-        & (row[6] <= 32)
-        & (row[7] <= 32)
+    let mut ok = true;
+    for j in 0..8 {
+        ok &= row[j] <= 32;
+    }
+    ok
 }
 
 // Every limit is at most 32.
 fn limits_fit(limits: [[u8; 8]; 8]) -> bool
     ensures { result ≡ limits_in_range limits }
 {
-    let mut i = 0;
-    while i < 8 {
-        let row = limits[i];
-        if !row_fits(row) {
+    for i in 0..8 {
+        if !row_fits(limits[i]) {
             return false;
         }
-        i += 1;
     }
     true
 }
@@ -78,22 +69,15 @@ pub fn table_at(s: &[u8], at: usize) -> [[u8; 8]; 8]
     requires { at + 64 ≤ length s.now }
     ensures { result ≡ table_at 8 s.now at }
 {
-    let b = at + 8;
-    let c = b + 8;
-    let d = c + 8;
-    let e = d + 8;
-    let f = e + 8;
-    let g = f + 8;
-    let h = g + 8;
     [
         bytes_at(s, at),
-        bytes_at(s, b),
-        bytes_at(s, c),
-        bytes_at(s, d),
-        bytes_at(s, e),
-        bytes_at(s, f),
-        bytes_at(s, g),
-        bytes_at(s, h),
+        bytes_at(s, at + 8),
+        bytes_at(s, at + 16),
+        bytes_at(s, at + 24),
+        bytes_at(s, at + 32),
+        bytes_at(s, at + 40),
+        bytes_at(s, at + 48),
+        bytes_at(s, at + 56),
     ]
 }
 
@@ -110,11 +94,10 @@ pub fn load(s: &[u8]) -> Header
     requires { length s.now ≡ 512 }
     ensures { result ≡ parse_header s.now }
 {
-    let allowances = codec::get_row(s, 16);
     Header {
         n: s[1],
-        t: codec::get16(s, 2),
-        allowances,
+        t: u16::get(s, 2),
+        allowances: codec::get_row(s, 16),
     }
 }
 
@@ -124,10 +107,8 @@ fn limits_small(s: &[u8]) -> bool
     ensures { result ≡ limits_in_range (table_at 8 s.now 32) }
 {
     let mut ok = true;
-    let mut i = 0;
-    while i < 64 {
-        ok = ok & (s[32 + i] <= 32);
-        i += 1;
+    for i in 0..64 {
+        ok &= s[32 + i] <= 32;
     }
     ok
 }
@@ -137,7 +118,7 @@ fn fields_fit(s: &[u8]) -> bool
     requires { length s.now ≡ 512 }
     ensures { result ≡ header_fits (parse_header s.now) (table_at 8 s.now 32) }
 {
-    (1 <= s[1]) & ((s[1] <= 8) & ((1 <= codec::get16(s, 2)) & limits_small(s)))
+    (1 <= s[1]) & ((s[1] <= 8) & ((1 <= u16::get(s, 2)) & limits_small(s)))
 }
 
 // Bytes 96 to 509 are zero: in two parts that overlap, each a multiple of 16, the width of a vector.
@@ -168,13 +149,8 @@ fn store_limits(d: &mut [u8], limits: [[u8; 8]; 8])
     requires { length d.old ≡ 512 }
     ensures { d.new ≡ splice d.old 32 (table_of limits) }
 {
-    let mut k = 0;
-    while k < 64 {
-        let i = k / 8;
-        let j = k % 8;
-        let row = limits[i];
-        d[32 + k] = row[j];
-        k += 1;
+    for k in 0..64 {
+        d[32 + k] = limits[k / 8][k % 8];
     }
 }
 
@@ -192,48 +168,37 @@ fn store(d: &mut [u8], h: Header, limits: [[u8; 8]; 8])
     requires { length d.old ≡ 512 }
     ensures { d.new ≡ image_header h limits }
 {
-    let allowances = h.allowances;
     store_front(d, h.n);
-    codec::put16(d, 2, h.t);
+    h.t.put(d, 2);
     codec::put_zeros(d, 4, 12);
-    codec::put_row(d, 16, allowances);
+    codec::put_row(d, 16, h.allowances);
     store_limits(d, limits);
     codec::put_zeros(d, 96, 414);
     checksum::seal(d);
 }
 
-// Writes a header block into the first 512 bytes of a buffer: 1, 11, or 0 when it is written.
-pub fn write(h: Header, limits: [[u8; 8]; 8], d: &mut [u8]) -> u8
-    ensures { (result ≡ (write_header h limits d.old).answer) × (d.new ≡ (write_header h limits d.old).buffer) }
+// Writes a header block into the first 512 bytes of a buffer; refused as malformed, or where the buffer is too small.
+pub fn write(h: Header, limits: [[u8; 8]; 8], d: &mut [u8]) -> Result<(), Refusal>
+    ensures { (told result ≡ (write_header h limits d.old).answer) × (d.new ≡ (write_header h limits d.old).buffer) }
 {
     if !header_fits(h, limits) {
-        return refusals::MALFORMED;
+        return Err(Refusal::Malformed);
     }
     if d.len() < checksum::BLOCK {
-        return refusals::BUFFER_LENGTH;
+        return Err(Refusal::BufferLength);
     }
     store(&mut d[0..checksum::BLOCK], h, limits);
-    0
+    Ok(())
 }
 
-// The fields of a header block but for its limits, or 1.
-pub fn read(s: &[u8]) -> HeaderRead
+// The fields of a header block but for its limits.
+pub fn read(s: &[u8]) -> Result<Header, Refusal>
     ensures { result ≡ read_header s.now }
 {
     if !well_made(s) {
-        return HeaderRead {
-            refusal: refusals::MALFORMED,
-            header: Header {
-                n: 0,
-                t: 0,
-                allowances: [0u16; 8],
-            },
-        };
+        return Err(Refusal::Malformed);
     }
-    HeaderRead {
-        refusal: 0,
-        header: load(s),
-    }
+    Ok(load(s))
 }
 
 // The limits of a header block; all 0 where the bytes are none.

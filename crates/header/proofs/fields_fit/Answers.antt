@@ -3,4 +3,4 @@ use Rattle.header.proofs.fields_fit.Goals as goal
 
 pub returns : goal.returns
 unfolding header_fits
-returns c = rw (c.get16.ensures, c.limits_small.ensures)
+returns c = rw (c.get.ensures, c.limits_small.ensures)

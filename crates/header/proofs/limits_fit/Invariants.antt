@@ -9,6 +9,3 @@ use Rattle.header.proofs.limits_fit.Given as goal
 
 abbrev pub invariant-loop-i : goal.invariant-loop-i
 invariant-loop-i l = (l.i ≤ 8) × (every l.i (λ (k : ℕ). row_in_range (get_or l.limits k [])) ≡ true)
-
-abbrev pub decreases-loop-i : goal.decreases-loop-i
-decreases-loop-i l = 8 - l.i

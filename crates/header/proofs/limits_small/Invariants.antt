@@ -7,6 +7,3 @@ use Rattle.header.proofs.limits_small.Given as goal
 
 abbrev pub invariant-loop-i : goal.invariant-loop-i
 invariant-loop-i l = (l.i ≤ 64) × (l.ok ≡ every l.i (λ (k : ℕ). leb (get_or l.s (32 + k) 0) 32))
-
-abbrev pub decreases-loop-i : goal.decreases-loop-i
-decreases-loop-i l = 64 - l.i

@@ -1,8 +1,16 @@
-use mathlib.Core.Path.{refl}
-use Rattle.codec.specs.Every.{every}
+use mathlib.Core.Path.{◌≡◌, sym}
+use native.Mathlib.Omega.{arith}
+use Rattle.codec.proofs.EveryLaws.{every_none}
+use Rattle.codec.proofs.FlagLaws.{every_turn}
 use Rattle.header.specs.Header.{row_in_range}
 use Rattle.header.proofs.row_fits.Goals as goal
 
+pub loop-j-init : goal.loop-j-init
+loop-j-init c = (omega arith, sym (every_none _))
+
+pub loop-j-preserved : goal.loop-j-preserved
+loop-j-preserved c = (omega arith, rw (every_turn, c.loop-j.invariant.1))
+
 pub returns : goal.returns
-unfolding row_in_range every
-returns c = refl
+unfolding row_in_range
+returns c = let e : c.loop-j.j ≡ 8 = omega arith in rw e at c.loop-j.invariant.1

@@ -8,6 +8,3 @@ use Rattle.header.proofs.store_limits.Given as goal
 
 abbrev pub invariant-loop-k : goal.invariant-loop-k
 invariant-loop-k l = (l.k ≤ 64) × (length l.d ≡ length l.initial.d) × (l.d ≡ splice l.initial.d 32 (upto l.k (λ (m : ℕ). get_or (get_or l.limits (m / 8) []) (m % 8) 0)))
-
-abbrev pub decreases-loop-k : goal.decreases-loop-k
-decreases-loop-k l = 64 - l.k

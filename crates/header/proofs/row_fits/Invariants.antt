@@ -1,0 +1,9 @@
+use Prim.Native.Nat.{ℕ, ◌≤◌}
+use mathlib.Core.Path.{◌≡◌}
+use lib.Dec.{leb}
+use lib.ListN.{get_or}
+use Rattle.codec.specs.Every.{every}
+use Rattle.header.proofs.row_fits.Given as goal
+
+abbrev pub invariant-loop-j : goal.invariant-loop-j
+invariant-loop-j l = (l.j ≤ 8) × (l.ok ≡ every l.j (λ (k : ℕ). leb (get_or l.row k 0) 32))
