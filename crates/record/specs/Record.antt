@@ -3,6 +3,14 @@ use Rattle.std.specs.Prelude.{ℕ, List, [], ◌∷◌, ◌++◌, Bool, not, ◌
 use Rattle.codec.specs.Num.{bytes_of, num_at, nums_of, nums_at}
 use Rattle.clock.specs.Range.{last_phase}
 use Rattle.record.specs.declared.Record.{Record}
+use Rattle.record.specs.declared.Kind.{Kind}
+use Rattle.record.specs.declared.Kind.TheVariants.{Own, Sent, Received}
+
+-- 1 own, 2 sent, 3 received
+abbrev pub kind_byte : Kind → ℕ
+kind_byte Own = 1
+kind_byte Sent = 2
+kind_byte Received = 3
 
 -- the peer of an own event is 255, that of a sent or received one another station below 8
 unfoldable pub peer_fits : ℕ → ℕ → ℕ → Bool

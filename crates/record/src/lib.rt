@@ -4,10 +4,12 @@
 ghost use Rattle.std.specs.Prelude.{◌≡◌, [], ◌∷◌, ◌&&◌, cond, ◌*◌, ◌≤◌, ◌<◌, eqb, ltb, length, get_or};
 ghost use Rattle.codec.specs.Num.{num_at};
 ghost use Rattle.codec.specs.Splice.{splice};
-ghost use Rattle.record.specs.Record.{image_record, parse_record, peer_fits, record_fits, well_made_record};
+ghost use Rattle.record.specs.Record.{image_record, kind_byte, parse_record, peer_fits, record_fits, well_made_record};
+
+use codec::Number;
 
 // An event: kind 1 own, 2 sent, 3 received; the peer of an own event is 255.
-#[derive(Clone, Copy)]
+#[derive(Clone, Copy, Debug, PartialEq, Eq)]
 pub struct Record {
     pub kind: u8,
     pub station: u8,
@@ -17,11 +19,31 @@ pub struct Record {
     pub counts: [u16; 8],
 }
 
+// Kinds of events. A record keeps a byte, since records of any bytes are parsed and tested.
+#[derive(Clone, Copy, Debug, PartialEq, Eq)]
+pub enum Kind {
+    Own,
+    Sent,
+    Received,
+}
+
+impl From<Kind> for u8 {
+    ghost from_gives = { λ kind b. b ≡ kind_byte kind };
+
+    fn from(kind: Kind) -> u8 {
+        match kind {
+            Kind::Own => 1,
+            Kind::Sent => 2,
+            Kind::Received => 3,
+        }
+    }
+}
+
 // The kind, doubled where the peer is 255: 2 or 3 in a record.
 fn doubled(kind: u8, peer: u8) -> u16
     ensures { result ≡ cond (eqb peer 255) (2 * kind) kind }
 {
-    let k = kind as u16;
+    let k = u16::from(kind);
     if peer == 255 { 2 * k } else { k }
 }
 
@@ -36,27 +58,24 @@ fn peer_fits(kind: u8, station: u8, peer: u8) -> bool
 pub fn record_fits(r: Record) -> bool
     ensures { result ≡ record_fits r }
 {
-    let station = r.station;
-    if 8 <= station {
+    if 8 <= r.station {
         return false;
     }
-    let i = station as usize;
-    let counts = r.counts;
-    peer_fits(r.kind, station, r.peer) & ((r.phase <= clock::LAST_PHASE) & (1 <= counts[i]))
+    let own = r.counts[usize::from(r.station)];
+    peer_fits(r.kind, r.station, r.peer) & ((r.phase <= clock::LAST_PHASE) & (1 <= own))
 }
 
 pub fn load(s: &[u8]) -> Record
     requires { 32 ≤ length s.now }
     ensures { result ≡ parse_record s.now }
 {
-    let counts = codec::get_row(s, 16);
     Record {
         kind: s[0],
         station: s[1],
         peer: s[2],
-        phase: codec::get32(s, 4),
-        register: codec::get32(s, 8),
-        counts,
+        phase: u32::get(s, 4),
+        register: u32::get(s, 8),
+        counts: codec::get_row(s, 16),
     }
 }
 
@@ -76,12 +95,11 @@ pub fn store(d: &mut [u8], r: Record)
     requires { 32 ≤ length d.old }
     ensures { d.new ≡ splice d.old 0 (image_record r) }
 {
-    let counts = r.counts;
     store_front(d, r.kind, r.station, r.peer);
-    codec::put32(d, 4, r.phase);
-    codec::put32(d, 8, r.register);
-    codec::put32(d, 12, 0);
-    codec::put_row(d, 16, counts);
+    r.phase.put(d, 4);
+    r.register.put(d, 8);
+    0u32.put(d, 12);
+    codec::put_row(d, 16, r.counts);
 }
 
 // The spare bytes, and what of the station is above 7, joined: 0 in a record.
@@ -89,7 +107,7 @@ fn spare(s: &[u8]) -> u32
     requires { 32 ≤ length s.now }
     ensures { eqb result 0 ≡ (eqb (get_or s.now 3 0) 0 && (eqb (num_at 4 s.now 12) 0 && ltb (get_or s.now 1 0) 8)) }
 {
-    codec::wide32(s[3]) | (codec::get32(s, 12) | codec::wide32(s[1] / 8))
+    u32::from(s[3]) | (u32::get(s, 12) | u32::from(s[1] / 8))
 }
 
 // The bytes are a record: its length, its spare bytes and its fields are right.
@@ -102,8 +120,7 @@ pub fn well_made(s: &[u8]) -> bool
     if spare(s) != 0 {
         return false;
     }
-    let station = s[1];
-    let i = station as usize;
-    peer_fits(s[0], station, s[2])
-        & ((codec::get32(s, 4) <= clock::LAST_PHASE) & (1 <= codec::get16(s, 16 + i * 2)))
+    let i = usize::from(s[1]);
+    peer_fits(s[0], s[1], s[2])
+        & ((u32::get(s, 4) <= clock::LAST_PHASE) & (1 <= u16::get(s, 16 + i * 2)))
 }

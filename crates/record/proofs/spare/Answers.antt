@@ -6,4 +6,4 @@ use Rattle.record.proofs.spare.Goals as goal
 pub returns : goal.returns
 returns c =
     let l = c.args.s.now in
-    rw (c.wide32.ensures.0, c.get32.ensures, c.wide32-2.ensures.0) (spare_law (get_or l 3 0) (num_at 4 l 12) (get_or l 1 0))
+    rw (c.from.ensures, c.get.ensures, c.from-2.ensures) (spare_law (get_or l 3 0) (num_at 4 l 12) (get_or l 1 0))

@@ -26,9 +26,6 @@ pub returns-then-spare-ne0 : goal.returns-then-spare-ne0
 returns-then-spare-ne0 c =
     rw (spare_first c.args.s.now c.if-s-ne32.false, sym c.spare.ensures ∙ ne_eqb _ 0 c.if-spare-ne0.true)
 
-pub overflow_cast-i : goal.overflow_cast-i
-overflow_cast-i c = omega (arith, (known (goal.at.overflow_cast-i c).Else-spare-ne0).1)
-
 pub peer_fits-requires : goal.peer_fits-requires
 peer_fits-requires c = (known (goal.at.peer_fits-requires c).Else-spare-ne0).1
 
@@ -38,10 +35,10 @@ overflow_mul-i c = omega (arith, (known (goal.at.overflow_mul-i c).Else-spare-ne
 pub overflow_add-i : goal.overflow_add-i
 overflow_add-i c = omega (arith, (known (goal.at.overflow_add-i c).Else-spare-ne0).1)
 
-pub get16-requires : goal.get16-requires
-get16-requires c = omega (arith, (known (goal.at.get16-requires c).Else-spare-ne0).1)
+pub get-requires-2 : goal.get-requires-2
+get-requires-2 c = omega (arith, (known (goal.at.get-requires-2 c).Else-spare-ne0).1)
 
 pub returns : goal.returns
 returns c =
     let l = c.args.s.now in
-    rw (spare_first l c.if-s-ne32.false, (known (goal.at.returns c).Else-spare-ne0).0, c.peer_fits.ensures, c.get32.ensures, c.get16.ensures, nums_get 2 8 l 16 (get_or l 1 0) (known (goal.at.returns c).Else-spare-ne0).1)
+    rw (spare_first l c.if-s-ne32.false, (known (goal.at.returns c).Else-spare-ne0).0, c.peer_fits.ensures, c.get.ensures, c.get-2.ensures, c.from-i.ensures, nums_get 2 8 l 16 (get_or l 1 0) (known (goal.at.returns c).Else-spare-ne0).1)
