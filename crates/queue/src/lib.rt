@@ -11,8 +11,7 @@ pub fn place<'a>(part: &'a [u8], width: usize, k: usize) -> &'a [u8]
     ensures { (result.now ≡ place_at width part.now k) × (length result.now ≡ width) }
 {
     let o = 1 + k * width;
-    let e = o + width;
-    &part[o..e]
+    &part[o..o + width]
 }
 
 // Puts an item behind the others.
@@ -21,22 +20,8 @@ pub fn push(part: &mut [u8], width: usize, item: &[u8])
     ensures { part.new ≡ pushed width part.old item.now }
 {
     let b = part[0];
-    let count = b as usize;
-    codec::put_bytes(part, 1 + count * width, item);
+    codec::put_bytes(part, 1 + usize::from(b) * width, item);
     part[0] = b + 1;
-}
-
-// What stands k places on is moved to the front; the last k places keep what they had.
-fn shift(d: &mut [u8], k: usize)
-    requires { k ≤ length d.old }
-    ensures { d.new ≡ drop k d.old ++ drop (length d.old - k) d.old }
-{
-    let n = d.len() - k;
-    let mut i = 0;
-    while i < n {
-        d[i] = d[i + k];
-        i += 1;
-    }
 }
 
 // The first k are taken off, and zeros follow.
@@ -44,9 +29,9 @@ fn drop_front(d: &mut [u8], k: usize)
     requires { k ≤ length d.old }
     ensures { d.new ≡ drop k d.old ++ blank k }
 {
-    let n = d.len() - k;
-    shift(d, k);
-    codec::put_zeros(d, n, k);
+    let n = d.len();
+    d.copy_within(k..n, 0);
+    codec::put_zeros(d, n - k, k);
 }
 
 // Takes the first item off; only the places in use are moved.
@@ -55,8 +40,6 @@ pub fn pop(part: &mut [u8], width: usize)
     ensures { part.new ≡ popped width part.old }
 {
     let b = part[0];
-    let count = b as usize;
-    let e = 1 + count * width;
-    drop_front(&mut part[1..e], width);
+    drop_front(&mut part[1..1 + usize::from(b) * width], width);
     part[0] = b - 1;
 }

@@ -1,4 +1,3 @@
-use Prim.Native.Nat.{◌-◌}
 use mathlib.Core.Path.{◌≡◌, ◌∙◌, sym, ap}
 use mathlib.Core.Bool.{not}
 use native.Mathlib.Omega.{arith}
@@ -17,7 +16,7 @@ returns-then-in_order c =
     sym (order-reached c.args.limits _ c.well_formed.1.0 c.args.n (sym c.in_order.ensures ∙ c.if-in_order.true))
 
 pub loop-i-init : goal.loop-i-init
-loop-i-init c = (omega arith, omega arith, every_none _)
+loop-i-init c = (every_none _)
 
 pub returns-then-seen-i-eq0 : goal.returns-then-seen-i-eq0
 unfolding every_reached
@@ -29,11 +28,11 @@ returns-then-seen-i-eq0 c =
 pub loop-i-preserved : goal.loop-i-preserved
 loop-i-preserved c =
     let l = c.loop-i in
-    (omega arith, omega arith, every_more l.i _ l.invariant.2 (ap not (ne_eqb _ _ c.if-seen-i-eq0.false)))
+    (every_more l.i _ l.invariant (ap not (ne_eqb _ _ c.if-seen-i-eq0.false)))
 
 pub returns : goal.returns
 unfolding every_reached
 returns c =
     let l = c.loop-i in
     let e : l.i ≡ c.args.n = omega arith in
-    sym (rw (e, c.spread-seen.ensures) at l.invariant.2)
+    sym (rw (e, c.spread-seen.ensures) at l.invariant)

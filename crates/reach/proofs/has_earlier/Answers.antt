@@ -1,4 +1,3 @@
-use Prim.Native.Nat.{◌-◌}
 use mathlib.Core.Path.{◌≡◌, sym, ap}
 use mathlib.Core.Bool.{not}
 use native.Mathlib.Omega.{arith}
@@ -12,9 +11,9 @@ pub loop-i-init : goal.loop-i-init
 unfolding has_earlier limit
 loop-i-init c = (omega arith, every_none _)
 
-pub returns-then-l-ne0 : goal.returns-then-l-ne0
+pub returns-then-limits-i-ne0 : goal.returns-then-limits-i-ne0
 unfolding has_earlier limit
-returns-then-l-ne0 c = sym (ap not (every_fails _ _ c.loop-i.i (omega arith) (ne_eqb _ _ c.if-l-ne0.true)))
+returns-then-limits-i-ne0 c = sym (ap not (every_fails _ _ c.loop-i.i (omega arith) (ne_eqb _ _ c.if-limits-i-ne0.true)))
 
 pub loop-i-preserved : goal.loop-i-preserved
 unfolding has_earlier limit

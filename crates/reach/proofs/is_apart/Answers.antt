@@ -1,4 +1,3 @@
-use Prim.Native.Nat.{◌-◌}
 use mathlib.Core.Path.{◌≡◌, sym, ap}
 use mathlib.Core.Bool.{not}
 use native.Mathlib.Omega.{arith}
@@ -10,13 +9,13 @@ pub loop-i-init : goal.loop-i-init
 unfolding apart linked limit
 loop-i-init c = (omega arith, every_none _)
 
-pub returns-then-s-l : goal.returns-then-s-l
+pub returns-then-seen-i : goal.returns-then-seen-i
 unfolding apart linked limit
-returns-then-s-l c = sym (every_fails 8 _ c.loop-i.i (omega arith) (ap not c.if-s-l.true))
+returns-then-seen-i c = sym (every_fails 8 _ c.loop-i.i (omega arith) (ap not c.if-seen-i.true))
 
 pub loop-i-preserved : goal.loop-i-preserved
 unfolding apart linked limit
-loop-i-preserved c = (omega arith, every_more _ _ c.loop-i.invariant.1 (ap not c.if-s-l.false))
+loop-i-preserved c = (omega arith, every_more _ _ c.loop-i.invariant.1 (ap not c.if-seen-i.false))
 
 pub returns : goal.returns
 unfolding apart linked limit
