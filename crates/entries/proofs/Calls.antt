@@ -1,6 +1,6 @@
 -- The calls of an entries block, both ways: what a block holds is written as that block, and what is written is read. Assumes nothing.
 use Prim.Native.Nat.{ℕ, ◌+◌, ◌*◌, ◌/◌, ◌%◌, ◌≤◌, ◌<◌}
-use mathlib.Core.Path.{◌≡◌, refl, ◌∙◌}
+use mathlib.Core.Path.{◌≡◌, refl, ◌∙◌, ap}
 use mathlib.Core.List.{List}
 use mathlib.Core.Bool.{Bool, true, false, ◌||◌, cond}
 use native.Mathlib.Omega.{arith}
@@ -15,7 +15,10 @@ use Rattle.codec.specs.Written.{refused, wrote}
 use Rattle.codec.proofs.EveryLaws.{both, join}
 use Rattle.record.specs.Record.{well_made_record}
 use Rattle.entries.specs.Entries.{count_of, stored_number, record_of, body_fits, well_made_entries, image_entries, records_fit, entries_fit, write_entries, read_entries, read_record}
-use Rattle.entries.specs.declared.EntriesRead.TheVariants.{Block, Refused}
+use Rattle.std.proofs.Common.{Result, Ok, Err}
+use Rattle.entries.specs.declared.EntriesRead.{EntriesRead}
+use Rattle.refusals.specs.declared.Refusal.{Refusal}
+use Rattle.refusals.specs.declared.Refusal.TheVariants.{Malformed}
 use Rattle.entries.proofs.Laws.{front_parts, well_made_parts, well_made-length, well_made-count, record_bytes, record_part, records_part, image-length, accepted_is_image, reads_back}
 
 -- ---- from the block
@@ -53,14 +56,17 @@ accepted_is_written l d b h s =
     rw (ne_eqb (length (record_bytes l)) 0 z, le-ltb 480 (length (record_bytes l)) (omega arith), accepted_fits l h, le-ltb (length d) 512 s, accepted_is_image l b h)
 
 -- the same by the calls: what the reader gives of a block is written as that block
-pub read_is_written : (l d : List ℕ) (number count : ℕ) → AreBytes l → read_entries l ≡ Block number count → 512 ≤ length d
+pub read_is_written : (l d : List ℕ) (number count : ℕ) → AreBytes l → read_entries l ≡ Ok (record { number = number; count = count }) → 512 ≤ length d
     → write_entries number (record_bytes l) d ≡ wrote (splice d 0 l)
 unfolding read_entries
 read_is_written l d number count b r s = go (well_made_entries l) refl r
   where
-    go : (t : Bool) → well_made_entries l ≡ t → cond t (Block (stored_number l) (count_of l)) (Refused 1) ≡ Block number count → write_entries number (record_bytes l) d ≡ wrote (splice d 0 l)
-    go true e q = let n : stored_number l ≡ number = cc in rw (← n) (accepted_is_written l d b e s)
-    go false e q = let z : ◌≡◌ {A = ℕ} 0 1 = cc in absurd (omega arith)
+    ok_same : {x y : EntriesRead} → ◌≡◌ {A = Result EntriesRead Refusal} (Ok x) (Ok y) → x ≡ y
+    ok_same h = cc
+
+    go : (t : Bool) → well_made_entries l ≡ t → cond {A = Result EntriesRead Refusal} t (Ok (record { number = stored_number l; count = count_of l })) (Err Malformed) ≡ Ok (record { number = number; count = count }) → write_entries number (record_bytes l) d ≡ wrote (splice d 0 l)
+    go true e q = let n : stored_number l ≡ number = ap EntriesRead.number (ok_same q) in rw (← n) (accepted_is_written l d b e s)
+    go false e q = cc
 
 -- ---- from the writer
 module _ (number : ℕ) (rs d : List ℕ) (done : (write_entries number rs d).answer ≡ 0) where
@@ -93,7 +99,7 @@ module _ (number : ℕ) (rs d : List ℕ) (done : (write_entries number rs d).an
 
   module _ (small : number < 4294967296) where
     -- what is written is read: the number and the count
-    pub written_is_read : read_entries (take 512 (write_entries number rs d).buffer) ≡ Block number (length rs / 32)
+    pub written_is_read : read_entries (take 512 (write_entries number rs d).buffer) ≡ Ok (record { number = number; count = length rs / 32 })
     unfolding read_entries
     written_is_read =
         let p = taken in

@@ -1,5 +1,5 @@
 -- The entries block (document 01, "Archive blocks"): 512 bytes with one to fifteen records. Assumes nothing.
-use Rattle.std.specs.Prelude.{ℕ, ◌*◌, ◌-◌, ◌/◌, ◌%◌, List, [], ◌∷◌, ◌++◌, Bool, ◌&&◌, ◌||◌, cond, eqb, leb, ltb, length, get_or, take, drop}
+use Rattle.std.specs.Prelude.{ℕ, ◌*◌, ◌-◌, ◌/◌, ◌%◌, List, [], ◌∷◌, ◌++◌, Bool, ◌&&◌, ◌||◌, cond, eqb, leb, ltb, length, get_or, take, drop, Result, Ok, Err}
 use Rattle.codec.specs.Num.{bytes_of, num_at}
 use Rattle.codec.specs.Splice.{splice}
 use Rattle.codec.specs.Every.{every, all_zero, blank}
@@ -8,7 +8,8 @@ use Rattle.codec.specs.Written.{Written, refused, wrote}
 use Rattle.record.specs.Record.{well_made_record}
 use Rattle.entries.specs.Starts.{record_start}
 use Rattle.entries.specs.declared.EntriesRead.{EntriesRead}
-use Rattle.entries.specs.declared.EntriesRead.TheVariants.{Block, Refused}
+use Rattle.refusals.specs.declared.Refusal.{Refusal}
+use Rattle.refusals.specs.declared.Refusal.TheVariants.{Malformed}
 
 -- ---- the block
 abbrev pub count_of : List ℕ → ℕ
@@ -68,8 +69,8 @@ write_entries number rs d =
     (cond (ltb (length d) block_size) (refused 11 d) (wrote (splice d 0 (image_entries number rs))))
     (refused 1 d))
 
-unfoldable pub read_entries : List ℕ → EntriesRead
-read_entries l = cond (well_made_entries l) (Block (stored_number l) (count_of l)) (Refused 1)
+unfoldable pub read_entries : List ℕ → Result EntriesRead Refusal
+read_entries l = cond (well_made_entries l) (Ok (record { number = stored_number l; count = count_of l })) (Err Malformed)
 
 -- no entries block is 1, no such record 12, a buffer of under 32 bytes 11
 unfoldable pub read_record : List ℕ → ℕ → List ℕ → Written

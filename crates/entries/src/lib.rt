@@ -1,16 +1,19 @@
 // The entries block of an archive: 512 bytes with one to fifteen records.
 #![tactic(auto)]
 
-ghost use Rattle.std.specs.Prelude.{◌≡◌, [], ◌∷◌, ◌≤◌, ◌<◌, ◌*◌, length};
-ghost use Rattle.codec.specs.Splice.{splice};
+ghost use Rattle.std.specs.Prelude.{◌≡◌, ◌≤◌, ◌<◌, ◌*◌, length};
 ghost use Rattle.entries.specs.Starts.{record_start};
 ghost use Rattle.entries.specs.Entries.{count_of, fields_fit, front_fits, records_fit, tail_fits, body_fits, well_made_entries, image_entries, entries_fit, write_entries, read_entries, read_record};
+ghost use Rattle.refusals.specs.Numbers.{told};
 
-// What a block reader finds: the block's number and its count of records, or a refusal's number.
-#[derive(Clone, Copy)]
-pub enum EntriesRead {
-    Block { number: u32, count: u8 },
-    Refused(u8),
+use codec::Number;
+use refusals::Refusal;
+
+// What a block reader finds: the block's number and its count of records.
+#[derive(Clone, Copy, Debug, PartialEq, Eq)]
+pub struct EntriesRead {
+    pub number: u32,
+    pub count: u8,
 }
 
 // Where record k starts.
@@ -26,14 +29,10 @@ fn records_fit(rs: &[u8], count: usize) -> bool
     requires { (count * 32 ≤ length rs.now) × (count ≤ 15) }
     ensures { result ≡ records_fit rs.now count }
 {
-    let mut k = 0;
-    while k < count {
-        let o = k * 32;
-        let e = o + 32;
-        if !record::well_made(&rs[o..e]) {
+    for k in 0..count {
+        if !record::well_made(&rs[k * 32..k * 32 + 32]) {
             return false;
         }
-        k += 1;
     }
     true
 }
@@ -46,8 +45,7 @@ pub fn fields_fit(s: &[u8]) -> bool
     (s[0] == 2)
         & ((1 <= s[1])
             & ((s[1] <= 15)
-                & ((codec::get16(s, 2) == 0)
-                    & ((1 <= codec::get32(s, 4)) & codec::zeros(&s[8..16])))))
+                & ((u16::get(s, 2) == 0) & ((1 <= u32::get(s, 4)) & codec::zeros(&s[8..16])))))
 }
 
 fn front_fits(s: &[u8]) -> bool
@@ -62,7 +60,7 @@ pub fn count_of(s: &[u8]) -> usize
     requires { length s.now ≡ 512 }
     ensures { result ≡ count_of s.now }
 {
-    s[1] as usize
+    usize::from(s[1])
 }
 
 // Zeros follow the records.
@@ -96,29 +94,16 @@ pub fn well_made(s: &[u8]) -> bool
     body_fits(s, count_of(s))
 }
 
-// Writes bytes 0 to 3: the kind of block, and the count of records.
-fn store_front(d: &mut [u8], count: u8)
-    requires { length d.old ≡ 512 }
-    ensures { d.new ≡ splice d.old 0 (2 ∷ count ∷ 0 ∷ 0 ∷ []) }
-{
-    d[0] = 2;
-    d[1] = count;
-    d[2] = 0;
-    d[3] = 0;
-}
-
 // Makes 512 bytes an entries block.
 fn store(d: &mut [u8], number: u32, rs: &[u8])
     requires { (length d.old ≡ 512) × (length rs.now ≤ 480) }
     ensures { d.new ≡ image_entries number rs.now }
 {
-    let count = rs.len() / 32;
-    let end = 16 + rs.len();
-    store_front(d, count as u8);
-    codec::put32(d, 4, number);
+    codec::put_bytes(d, 0, &[2, (rs.len() / 32) as u8, 0, 0]);
+    number.put(d, 4);
     codec::put_zeros(d, 8, 8);
     codec::put_bytes(d, 16, rs);
-    codec::put_zeros(d, end, 494 - rs.len());
+    codec::put_zeros(d, 16 + rs.len(), 494 - rs.len());
     checksum::seal(d);
 }
 
@@ -126,58 +111,56 @@ fn entries_fit(number: u32, rs: &[u8]) -> bool
     requires { length rs.now ≤ 480 }
     ensures { result ≡ entries_fit number rs.now }
 {
-    let count = rs.len() / 32;
-    (1 <= number) & ((rs.len() % 32 == 0) & records_fit(rs, count))
+    (1 <= number) & ((rs.len() % 32 == 0) & records_fit(rs, rs.len() / 32))
 }
 
-// Writes an entries block into the first 512 bytes of a buffer: 12, 1, 11, or 0 when it is written.
-pub fn write(number: u32, rs: &[u8], d: &mut [u8]) -> u8
-    ensures { (result ≡ (write_entries number rs.now d.old).answer) × (d.new ≡ (write_entries number rs.now d.old).buffer) }
+// Writes an entries block into the first 512 bytes of a buffer, or is refused: `NoSuchRecord`, `Malformed`, `BufferLength`.
+#[tactic(auto, unfolding(crate::specs::Entries::write_entries))]
+pub fn write(number: u32, rs: &[u8], d: &mut [u8]) -> Result<(), Refusal>
+    ensures { (told result ≡ (write_entries number rs.now d.old).answer) × (d.new ≡ (write_entries number rs.now d.old).buffer) }
 {
-    if rs.len() == 0 {
-        return refusals::NO_SUCH_RECORD;
-    }
-    if 480 < rs.len() {
-        return refusals::NO_SUCH_RECORD;
+    if rs.is_empty() || 480 < rs.len() {
+        return Err(Refusal::NoSuchRecord);
     }
     if !entries_fit(number, rs) {
-        return refusals::MALFORMED;
+        return Err(Refusal::Malformed);
     }
     if d.len() < checksum::BLOCK {
-        return refusals::BUFFER_LENGTH;
+        return Err(Refusal::BufferLength);
     }
     store(&mut d[0..checksum::BLOCK], number, rs);
-    0
+    Ok(())
 }
 
-// The number and the count of records of an entries block, or 1.
-pub fn read(s: &[u8]) -> EntriesRead
+// The number and the count of records of an entries block, or `Malformed`.
+#[tactic(auto, unfolding(crate::specs::Entries::read_entries))]
+pub fn read(s: &[u8]) -> Result<EntriesRead, Refusal>
     ensures { result ≡ read_entries s.now }
 {
     if !well_made(s) {
-        return EntriesRead::Refused(refusals::MALFORMED);
+        return Err(Refusal::Malformed);
     }
-    EntriesRead::Block {
-        number: codec::get32(s, 4),
+    Ok(EntriesRead {
+        number: u32::get(s, 4),
         count: s[1],
-    }
+    })
 }
 
-// Copies record k into the first 32 bytes of a buffer: 1, 12, 11, or 0 when it is copied.
-pub fn read_record(s: &[u8], k: usize, d: &mut [u8]) -> u8
-    ensures { (result ≡ (read_record s.now k d.old).answer) × (d.new ≡ (read_record s.now k d.old).buffer) }
+// Copies record k into the first 32 bytes of a buffer, or is refused: `Malformed`, `NoSuchRecord`, `BufferLength`.
+#[tactic(auto, unfolding(crate::specs::Entries::read_record))]
+pub fn read_record(s: &[u8], k: usize, d: &mut [u8]) -> Result<(), Refusal>
+    ensures { (told result ≡ (read_record s.now k d.old).answer) × (d.new ≡ (read_record s.now k d.old).buffer) }
 {
     if !well_made(s) {
-        return refusals::MALFORMED;
+        return Err(Refusal::Malformed);
     }
     if count_of(s) <= k {
-        return refusals::NO_SUCH_RECORD;
+        return Err(Refusal::NoSuchRecord);
     }
     if d.len() < 32 {
-        return refusals::BUFFER_LENGTH;
+        return Err(Refusal::BufferLength);
     }
     let o = start_of(k);
-    let e = o + 32;
-    codec::put_bytes(d, 0, &s[o..e]);
-    0
+    codec::put_bytes(d, 0, &s[o..o + 32]);
+    Ok(())
 }

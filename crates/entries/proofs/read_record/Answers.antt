@@ -6,26 +6,11 @@ use Rattle.entries.specs.Entries.{record_of, read_record}
 use Rattle.entries.proofs.Laws.{well_made-length, well_made-count}
 use Rattle.entries.proofs.read_record.Goals as goal
 
-pub returns-then-not-well_made : goal.returns-then-not-well_made
-unfolding read_record
-returns-then-not-well_made c = rw (sym c.well_made.ensures ∙ c.if-not-well_made.true) (refl, refl)
-
 pub count_of-requires : goal.count_of-requires
 count_of-requires c = well_made-length _ (sym c.well_made.ensures ∙ c.if-not-well_made.false)
 
-pub returns-then-count_of-k : goal.returns-then-count_of-k
-unfolding read_record
-returns-then-count_of-k c = rw (sym c.well_made.ensures ∙ c.if-not-well_made.false, ← c.count_of.ensures, le-ltb _ _ c.if-count_of-k.true) (refl, refl)
-
-pub returns-then-d-lt32 : goal.returns-then-d-lt32
-unfolding read_record
-returns-then-d-lt32 c = rw (sym c.well_made.ensures ∙ c.if-not-well_made.false, ← c.count_of.ensures, lt-ltb _ _ c.if-count_of-k.false, lt-ltb _ 32 c.if-d-lt32.true) (refl, refl)
-
 pub start_of-o-requires : goal.start_of-o-requires
 start_of-o-requires c = let p = well_made-count c.args.s.now (sym c.well_made.ensures ∙ c.if-not-well_made.false) in omega (arith, c.count_of.ensures)
-
-pub overflow_add-e : goal.overflow_add-e
-overflow_add-e c = let p = well_made-count c.args.s.now (sym c.well_made.ensures ∙ c.if-not-well_made.false) in omega (arith, c.count_of.ensures, c.start_of-o.ensures)
 
 pub slice_bounds-put_bytes-end : goal.slice_bounds-put_bytes-end
 slice_bounds-put_bytes-end c =

@@ -19,9 +19,9 @@ returns c =
     let n : length c.args.d.now ≡ 512 = c.requires.0 in
     let rs = c.args.rs.now in
     let m : length rs ≤ 480 = c.requires.1 in
-    let w1 = first c.args.d.now (2 ∷ length rs / 32 ∷ 0 ∷ 0 ∷ []) c.store_front.new.d 4 refl c.store_front.ensures in
-    let w2 = next (bytes_of 4 c.args.number) c.put32.new.d 4 w1 (omega arith) refl c.put32.ensures in
+    let w1 = first c.args.d.now (2 ∷ length rs / 32 ∷ 0 ∷ 0 ∷ []) c.put_bytes.new.d 4 refl c.put_bytes.ensures in
+    let w2 = next (bytes_of 4 c.args.number) c.put.new.d 4 w1 (omega arith) refl c.put.ensures in
     let w3 = next (blank 8) c.put_zeros.new.d 8 w2 (omega arith) (blank-length 8) c.put_zeros.ensures in
-    let w4 = next rs c.put_bytes.new.d (length rs) w3 (omega arith) refl c.put_bytes.ensures in
+    let w4 = next rs c.put_bytes-2.new.d (length rs) w3 (omega arith) refl c.put_bytes-2.ensures in
     let w5 = next (blank (494 - length rs)) c.put_zeros-2.new.d (494 - length rs) w4 (omega arith) (blank-length (494 - length rs)) c.put_zeros-2.ensures in
     c.seal.ensures ∙ ap seal_of (ap (λ (l : List ℕ). take 510 l) w5.is ∙ take_at (entries_body c.args.number rs) _ 510 (body_length c.args.number rs m))

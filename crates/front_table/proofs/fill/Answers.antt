@@ -5,6 +5,7 @@ use Rattle.header.specs.Header.{table_at}
 use Rattle.front_table.specs.Fronts.{may_stand, front_of}
 use Rattle.front_table.proofs.TableLaws.{linked_at, row_none, row_more}
 use Rattle.front_table.proofs.fill.Goals as goal
+use Rattle.front_table.proofs.fill.Goals.{then-stands, else-stands}
 
 pub loop-s-init : goal.loop-s-init
 loop-s-init c =
@@ -21,8 +22,13 @@ loop-s-preserved c =
     let l = c.loop-s in
     let m = table_at 8 a.head.now 32 in
     let e = linked_at a.kind l.s a.p (omega arith) (omega arith) (omega arith) (omega arith) a.top m in
-    let x : c.front.result ≡ front_of a.top m ((a.kind * 8 + a.p) * 8 + l.s) = (rw c.limit.ensures at c.front.ensures) ∙ sym e in
-    (omega arith, row_more a.top m (a.kind * 8 + a.p) l.s a.r.now l.r c.front.result (omega arith) (omega arith) x l.invariant.1)
+    let x : c.if-stands.front ≡ front_of a.top m ((a.kind * 8 + a.p) * 8 + l.s) =
+        elim c.if-stands.branch [
+          then-stands w ↦ let t = rw c.limit.ensures at w.if-stands.true in w.front-is ∙ sym (rw t at e)
+          | else-stands w ↦ let t = rw c.limit.ensures at w.if-stands.false in w.front-is ∙ sym (rw t at e)
+        ]
+    in
+    (omega arith, row_more a.top m (a.kind * 8 + a.p) l.s a.r.now l.r c.if-stands.front (omega arith) (omega arith) x l.invariant.1)
 
 pub returns : goal.returns
 returns c =

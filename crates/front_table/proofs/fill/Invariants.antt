@@ -6,5 +6,3 @@ use Rattle.front_table.proofs.fill.Given as goal
 abbrev pub invariant-loop-s : goal.invariant-loop-s
 invariant-loop-s l = (l.s ≤ 8) × Row l.top (table_at 8 l.head 32) (l.kind * 8 + l.p) l.s l.initial.r l.r
 
-abbrev pub decreases-loop-s : goal.decreases-loop-s
-decreases-loop-s l = 8 - l.s

@@ -6,7 +6,7 @@ use Rattle.front_table.proofs.TableLaws.{filled_none, filled_more}
 use Rattle.front_table.proofs.fronts.Goals as goal
 
 pub loop-p-init : goal.loop-p-init
-loop-p-init c = (omega arith, filled_none c.wide-top.result (table_at 8 c.args.head.now 32))
+loop-p-init c = (omega arith, filled_none c.from-top.result (table_at 8 c.args.head.now 32))
 
 pub fill-requires : goal.fill-requires
 fill-requires c = (rw length-set c.loop-p.invariant.1.0, c.requires, omega arith, omega arith, omega arith)
@@ -20,9 +20,9 @@ pub loop-p-preserved : goal.loop-p-preserved
 loop-p-preserved c =
     let l = c.loop-p in
     let m = table_at 8 c.args.head.now 32 in
-    (omega arith, filled_more c.wide-top.result m l.p l.r c.fill.new.r c.fill-in-loop-p.new.r (omega arith) l.invariant.1 c.fill.ensures c.fill-in-loop-p.ensures)
+    (omega arith, filled_more c.from-top.result m l.p l.r c.fill.new.r c.fill-in-loop-p.new.r (omega arith) l.invariant.1 c.fill.ensures c.fill-in-loop-p.ensures)
 
 pub returns : goal.returns
 returns c i h =
     let e : c.loop-p.p ≡ 8 = omega arith in
-    (rw c.wide-top.ensures.0 at c.loop-p.invariant.1.1) i h (λ z. omega arith) (λ z. omega arith)
+    (rw c.from-top.ensures at c.loop-p.invariant.1.1) i h (λ z. omega arith) (λ z. omega arith)

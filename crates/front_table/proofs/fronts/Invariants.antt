@@ -6,5 +6,3 @@ use Rattle.front_table.proofs.fronts.Given as goal
 abbrev pub invariant-loop-p : goal.invariant-loop-p
 invariant-loop-p l = (l.p ≤ 8) × Filled l.top (table_at 8 l.head 32) l.p l.r
 
-abbrev pub decreases-loop-p : goal.decreases-loop-p
-decreases-loop-p l = 8 - l.p

@@ -5,4 +5,4 @@ use Rattle.front_table.proofs.place_of.Goals as goal
 
 pub returns : goal.returns
 unfolding place_of
-returns c = (refl, omega arith)
+returns c = rw c.from.ensures (refl, omega arith)
