@@ -62,6 +62,12 @@ gather w true false b k c f h = rw (and-false (w && true))
 gather w true true false k c f h = rw (and-false (w && true))
 gather w true true true k c f h = rw (and_true w) (h refl ∙ and_comm f c)
 
+-- nothing is left of a number once another is taken away if it is at most that
+pub sub_leb : (x m : ℕ) → eqb (x - m) 0 ≡ leb x m
+sub_leb x m =
+    bool_iff _ _ (λ (e : eqb (x - m) 0 ≡ true). let z : x - m ≡ 0 = eqb-true _ _ e in le-leb x m (omega arith))
+    (λ (e : leb x m ≡ true). let l : x ≤ m = leb-true x m e in eq-eqb _ 0 (omega arith))
+
 -- ---- parts of a block
 zero_at_lem : (l : List ℕ) (i : ℕ) → total l ≡ 0 → get_or l i 0 ≡ 0
 unfolding total

@@ -1,7 +1,7 @@
 // The test of an entries block in an archive, of all its records together.
 #![tactic(auto)]
 
-ghost use Rattle.std.specs.Prelude.{◌≡◌, ℕ, min, ◌≤◌, ◌<◌, ◌+◌, ◌*◌, ◌/◌, eqb, leb, length};
+ghost use Rattle.std.specs.Prelude.{◌≡◌, ℕ, ◌≤◌, ◌<◌, ◌+◌, ◌*◌, ◌/◌, eqb, leb, length};
 ghost use Rattle.codec.specs.Every.{every};
 ghost use Rattle.header.specs.Header.{parse_header, table_at};
 ghost use Rattle.entries.specs.Entries.{stored_number, record_of};
@@ -9,12 +9,8 @@ ghost use Rattle.block_test.specs.BlockTest.{block_fits};
 ghost use Rattle.front_table.specs.Fronts.{Fronts};
 ghost use Rattle.block_test.specs.Sweep.{count_at, counts_test, phase_test, record_test, Looked, sound_test};
 
-// By how much a count is above m.
-fn above(x: u16, m: u16) -> u16
-    ensures { eqb result 0 ≡ leb x m }
-{
-    if m < x { x - m } else { 0 }
-}
+use checksum::ColumnSums;
+use codec::Number;
 
 // The counts of station i in the fifteen places of a block are at most m. Joined by `|`, which takes one step less for each
 // than comparing.
@@ -22,13 +18,11 @@ fn column_fits(block: &[u8], i: usize, m: u16) -> bool
     requires { (length block.now ≡ 512) × (i < 8) }
     ensures { result ≡ every 15 (λ (k : ℕ). leb (count_at block.now i k) m) }
 {
-    let mut all: u16 = 0;
-    let mut k = 0;
-    while k < 15 {
-        all = all | above(codec::get16(block, 32 + k * 32 + 2 * i), m);
-        k += 1;
+    let mut above: u16 = 0;
+    for k in 0..15 {
+        above |= u16::get(block, 32 + k * 32 + 2 * i).saturating_sub(m);
     }
-    all == 0
+    above == 0
 }
 
 // Every count in the fifteen places of a block is at most t, and 0 for stations n and above. The stations are vectorised.
@@ -37,19 +31,10 @@ fn counts_fit(block: &[u8], n: u8, t: u16) -> bool
     ensures { result ≡ counts_test n t block.now }
 {
     let mut ok = true;
-    let mut j: u8 = 0;
-    while j < 8 {
-        let i = j as usize;
-        ok = ok & column_fits(block, i, clock::ceiling(j, n, t));
-        j += 1;
+    for j in 0..8u8 {
+        ok &= column_fits(block, usize::from(j), clock::ceiling(j, n, t));
     }
     ok
-}
-
-fn smaller(x: u16, y: u16) -> u16
-    ensures { result ≡ min x y }
-{
-    if x < y { x } else { y }
 }
 
 // What is seen of a block's records, gathered with no branch: where first bytes are wrong, spare bytes and phases, each
@@ -83,20 +68,14 @@ fn look(known: &[u32; 256], block: &[u8], from: usize, end: usize, before: Seen)
     let mut least = before.least;
     let mut spare = before.spare;
     let mut phases = before.phases;
-    let mut k = from;
-    while k < end {
+    for k in from..end {
         let o = entries::start_of(k);
-        let e = o + 32;
-        let part = &block[o..e];
-        let x = codec::get32(part, 0);
-        wrong = wrong | front_table::differ(known, x);
-        least = smaller(
-            codec::get16(part, 16 + 2 * (front_table::place_of(x) % 8)),
-            least,
-        );
-        spare = spare | codec::get32(part, 12);
-        phases = phases | codec::get32(part, 4);
-        k += 1;
+        let part = &block[o..o + 32];
+        let x = u32::get(part, 0);
+        wrong |= front_table::differ(known, x);
+        least = u16::get(part, 16 + 2 * (front_table::place_of(x) % 8)).min(least);
+        spare |= u32::get(part, 12);
+        phases |= u32::get(part, 4);
     }
     Seen {
         wrong,
@@ -112,12 +91,9 @@ fn phases_fit(block: &[u8], count: usize) -> bool
     ensures { result ≡ every count (λ (k : ℕ). phase_test (record_of block.now k)) }
 {
     let mut ok = true;
-    let mut k = 0;
-    while k < count {
+    for k in 0..count {
         let o = entries::start_of(k);
-        let e = o + 32;
-        ok = ok & (codec::get32(&block[o..e], 4) <= clock::LAST_PHASE);
-        k += 1;
+        ok &= u32::get(&block[o..o + 32], 4) <= clock::LAST_PHASE;
     }
     ok
 }
@@ -142,17 +118,14 @@ fn full_fits(known: &[u32; 256], block: &[u8]) -> bool
     requires { length block.now ≡ 512 }
     ensures { result ≡ sound_test known.now block.now 15 }
 {
-    let mut lows: [u16; 32] = [0; 32];
-    let mut highs: [u16; 32] = [0; 32];
+    let mut sums = ColumnSums::new();
     let mut seen = unseen();
-    let mut t = 0;
-    while t < 3 {
-        checksum::fill_columns(block, t * 8, t * 8 + 8, &mut lows, &mut highs);
+    for t in 0..3 {
+        sums.fill(block, t * 8, t * 8 + 8);
         seen = look(known, block, t * 4, t * 4 + 4, seen);
-        t += 1;
     }
-    checksum::fill_columns(block, 24, 32, &mut lows, &mut highs);
-    records_fit(known, block, 12, 15, seen) & checksum::sealed_columns(block, &lows, &highs)
+    sums.fill(block, 24, 32);
+    records_fit(known, block, 12, 15, seen) & checksum::sealed_columns(block, &sums)
 }
 
 // The first `count` records of a block, but for their counts, zeros behind them, and the check.
@@ -171,7 +144,7 @@ fn number_of(block: &[u8]) -> usize
     requires { length block.now ≡ 512 }
     ensures { result ≡ stored_number block.now }
 {
-    codec::get32(block, 4) as usize
+    u32::get(block, 4) as usize
 }
 
 // An entries block in its place.
@@ -185,5 +158,5 @@ pub fn block_fits(head: &[u8], known: &[u32; 256], number: usize, last: bool, bl
     let count = entries::count_of(block);
     (number_of(block) == number)
         & ((last | (count == 15))
-            & (sound(known, block, count) & counts_fit(block, head[1], codec::get16(head, 2))))
+            & (sound(known, block, count) & counts_fit(block, head[1], u16::get(head, 2))))
 }

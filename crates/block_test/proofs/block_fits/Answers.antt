@@ -21,4 +21,4 @@ returns c =
     let a = c.args in
     let f = sym c.fields_fit.ensures ∙ c.if-not-fields_fit.false in
     let e = sound_law a.block.now c.requires.3 (λ (i : ℕ). omega (arith, c.type_inv.block i)) (parse_header a.head.now) (table_at 8 a.head.now 32) a.known.now c.requires.1 c.requires.2 a.number a.last f in
-    rw (c.number_of.ensures, c.sound.ensures, c.counts_fit.ensures, c.get16.ensures, c.count_of-count.ensures) (sym e)
+    rw (c.number_of.ensures, c.sound.ensures, c.counts_fit.ensures, c.get.ensures, c.count_of-count.ensures) (sym e)

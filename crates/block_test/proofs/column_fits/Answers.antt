@@ -2,6 +2,7 @@ use mathlib.Core.Path.{◌≡◌, sym}
 use native.Mathlib.Omega.{arith}
 use Rattle.codec.proofs.EveryLaws.{every_none, or_zero}
 use Rattle.codec.proofs.FlagLaws.{every_turn}
+use Rattle.block_test.proofs.SweepLaws.{sub_leb}
 use Rattle.block_test.proofs.column_fits.Goals as goal
 
 pub loop-k-init : goal.loop-k-init
@@ -10,7 +11,7 @@ loop-k-init c = (omega arith, sym (every_none _))
 pub loop-k-preserved : goal.loop-k-preserved
 loop-k-preserved c =
     let l = c.loop-k in
-    (omega arith, rw (every_turn, or_zero l.all c.above-all.result, l.invariant.1, c.above-all.ensures, c.get16.ensures))
+    (omega arith, rw (every_turn, or_zero l.above c.saturating_sub-above.result, l.invariant.1, c.saturating_sub-above.ensures, sub_leb, c.get.ensures))
 
 pub returns : goal.returns
 returns c =

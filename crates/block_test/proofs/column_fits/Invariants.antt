@@ -6,7 +6,4 @@ use Rattle.block_test.specs.Sweep.{count_at}
 use Rattle.block_test.proofs.column_fits.Given as goal
 
 abbrev pub invariant-loop-k : goal.invariant-loop-k
-invariant-loop-k l = (l.k ≤ 15) × (eqb l.all 0 ≡ every l.k (λ (j : ℕ). leb (count_at l.block l.i j) l.m))
-
-abbrev pub decreases-loop-k : goal.decreases-loop-k
-decreases-loop-k l = 15 - l.k
+invariant-loop-k l = (l.k ≤ 15) × (eqb l.above 0 ≡ every l.k (λ (j : ℕ). leb (count_at l.block l.i j) l.m))

@@ -12,7 +12,7 @@ pub column_fits-ok-requires : goal.column_fits-ok-requires
 column_fits-ok-requires c = (c.requires, omega arith)
 
 pub loop-j-preserved : goal.loop-j-preserved
-loop-j-preserved c = (omega arith, rw (every_turn, c.loop-j.invariant.1, c.column_fits-ok.ensures, c.ceiling.ensures))
+loop-j-preserved c = (omega arith, rw (every_turn, c.loop-j.invariant.1, c.column_fits-ok.ensures, c.ceiling.ensures, c.from.ensures))
 
 pub returns : goal.returns
 unfolding counts_test

@@ -8,6 +8,3 @@ use Rattle.block_test.proofs.counts_fit.Given as goal
 
 abbrev pub invariant-loop-j : goal.invariant-loop-j
 invariant-loop-j l = (l.j ≤ 8) × (l.ok ≡ every l.j (λ (i : ℕ). every 15 (λ (k : ℕ). leb (count_at l.block i k) (ceiling_of l.n l.t i))))
-
-abbrev pub decreases-loop-j : goal.decreases-loop-j
-decreases-loop-j l = 8 - l.j

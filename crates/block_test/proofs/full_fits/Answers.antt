@@ -9,10 +9,10 @@ pub loop-t-init : goal.loop-t-init
 loop-t-init c =
     let a = c.args in
     let u = c.unseen-seen.ensures in
-    (omega arith, (refl, refl, λ (k : ℕ) (h : k < 0). absurd (omega arith)), rw (u.0, u.1, u.2, u.3) (looked_none a.known.now a.block.now))
+    (omega arith, c.new-sums.ensures a.block.now, rw (u.0, u.1, u.2, u.3) (looked_none a.known.now a.block.now))
 
-pub fill_columns-requires : goal.fill_columns-requires
-fill_columns-requires c = (omega arith, omega arith, omega arith, c.loop-t.invariant.1)
+pub fill-requires : goal.fill-requires
+fill-requires c = (omega arith, omega arith, omega arith, c.loop-t.invariant.1)
 
 pub look-seen-requires : goal.look-seen-requires
 look-seen-requires c = (omega arith, omega arith, omega arith, c.loop-t.invariant.2)
@@ -22,10 +22,10 @@ loop-t-preserved c =
     let l = c.loop-t in
     let e : (l.t + 1) * 8 ≡ l.t * 8 + 8 = omega arith in
     let f : (l.t + 1) * 4 ≡ l.t * 4 + 4 = omega arith in
-    (omega arith, rw e c.fill_columns.ensures, rw f c.look-seen.ensures)
+    (omega arith, rw e c.fill.ensures, rw f c.look-seen.ensures)
 
-pub fill_columns-requires-2 : goal.fill_columns-requires-2
-fill_columns-requires-2 c =
+pub fill-requires-2 : goal.fill-requires-2
+fill-requires-2 c =
     let l = c.loop-t in
     let e : l.t ≡ 3 = omega arith in
     (omega arith, omega arith, omega arith, rw e at l.invariant.1)

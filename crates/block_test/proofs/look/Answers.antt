@@ -13,12 +13,12 @@ loop-k-preserved c =
     let a = c.args in
     let o = c.start_of-o in
     let p = part_record a.block.now l.k o.result o.ensures in
-    let x = rw p at c.get32-x.ensures in
+    let x = rw p at c.get-x.ensures in
     let d = c.differ-wrong in
-    let own = rw (p, c.place_of.ensures.0, x) at c.get16.ensures in
-    let s = rw p at c.get32-spare.ensures in
-    let t = rw p at c.get32-phases.ensures in
-    (omega arith, rw (c.smaller-least.ensures, s, t) (looked_more a.known.now a.block.now l.k l.wrong l.least l.spare l.phases d.result c.get16.result l.invariant.1 (rw x at d.ensures) own))
+    let own = rw (p, c.place_of.ensures.0, x) at c.get.ensures in
+    let s = rw p at c.get-spare.ensures in
+    let t = rw p at c.get-phases.ensures in
+    (omega arith, rw (c.min-least.ensures, s, t) (looked_more a.known.now a.block.now l.k l.wrong l.least l.spare l.phases d.result c.get.result l.invariant.1 (rw x at d.ensures) own))
 
 pub returns : goal.returns
 returns c =

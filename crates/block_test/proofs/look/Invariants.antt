@@ -4,6 +4,3 @@ use Rattle.block_test.proofs.look.Given as goal
 
 abbrev pub invariant-loop-k : goal.invariant-loop-k
 invariant-loop-k l = (l.k ≤ l.end) × Looked l.known l.block l.k l.wrong l.least l.spare l.phases
-
-abbrev pub decreases-loop-k : goal.decreases-loop-k
-decreases-loop-k l = l.end - l.k

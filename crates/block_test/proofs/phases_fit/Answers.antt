@@ -14,7 +14,7 @@ loop-k-preserved c =
     let a = c.args in
     let o = c.start_of-o in
     let p = part_record a.block.now l.k o.result o.ensures in
-    let t = rw p at c.get32.ensures in
+    let t = rw p at c.get.ensures in
     (omega arith, rw (every_turn, l.invariant.1, t))
 
 pub returns : goal.returns

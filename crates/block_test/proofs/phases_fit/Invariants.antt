@@ -7,6 +7,3 @@ use Rattle.block_test.proofs.phases_fit.Given as goal
 
 abbrev pub invariant-loop-k : goal.invariant-loop-k
 invariant-loop-k l = (l.k ≤ l.count) × (l.ok ≡ every l.k (λ (i : ℕ). phase_test (record_of l.block i)))
-
-abbrev pub decreases-loop-k : goal.decreases-loop-k
-decreases-loop-k l = l.count - l.k
