@@ -1,5 +1,5 @@
 -- A whole archive (document 01, "Archive blocks"): a header and then entries blocks, perhaps none. Assumes nothing.
-use Rattle.std.specs.Prelude.{ℕ, ◌+◌, ◌*◌, ◌-◌, ◌/◌, ◌%◌, List, [], Bool, ◌&&◌, cond, eqb, ltb, length, take, drop}
+use Rattle.std.specs.Prelude.{ℕ, ◌+◌, ◌*◌, ◌-◌, ◌/◌, ◌%◌, List, [], Bool, ◌&&◌, cond, eqb, ltb, length, take, drop, Result, Ok, Err}
 use Rattle.codec.specs.Every.{every}
 use Rattle.checksum.specs.Check.{block_size}
 use Rattle.header.specs.Header.{parse_header, table_at, well_made_header}
@@ -7,8 +7,8 @@ use Rattle.header.specs.declared.Header.{Header}
 use Rattle.entries.specs.Starts.{record_start}
 use Rattle.entries.specs.Entries.{count_of}
 use Rattle.block_test.specs.BlockTest.{block_fits}
-use Rattle.archive.specs.declared.Counted.{Counted}
-use Rattle.archive.specs.declared.Counted.TheVariants.{Count, Refused}
+use Rattle.refusals.specs.declared.Refusal.{Refusal}
+use Rattle.refusals.specs.declared.Refusal.TheVariants.{Malformed}
 
 -- ---- the blocks
 -- entries block b of an archive, from 0: it bears number b + 1
@@ -38,9 +38,9 @@ unfoldable pub record_at : List ℕ → ℕ → List ℕ
 record_at a k = cond (ltb (k / 15 + 1) (length a / block_size)) (take 32 (drop ((k / 15 + 1) * block_size + record_start (k % 15)) a)) []
 
 -- ---- the calls
--- how many records, or 1 for bytes that are no archive
-unfoldable pub count_records : List ℕ → Counted
-count_records a = cond (archive_test a) (Count (records a)) (Refused 1)
+-- how many records, or refused for bytes that are no archive
+unfoldable pub count_records : List ℕ → Result ℕ Refusal
+count_records a = cond (archive_test a) (Ok (records a)) (Err Malformed)
 
 -- 0 where there is a record k, 12 where there is none, 1 for bytes that are no archive
 unfoldable pub find_record : List ℕ → ℕ → ℕ

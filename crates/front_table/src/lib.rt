@@ -26,7 +26,11 @@ fn fill(r: &mut [u32; 256], head: &[u8], top: usize, kind: usize, p: usize)
 {
     for s in 0..8 {
         let stands = (p < top) & (s != p) & (0 < limit(head, kind, s, p));
-        let front = if stands { kind + (256 * s + 65536 * p) } else { ELSEWHERE };
+        let front = if stands {
+            kind + (256 * s + 65536 * p)
+        } else {
+            ELSEWHERE
+        };
         r[(kind * 8 + p) * 8 + s] = front as u32;
     }
 }

@@ -1,4 +1,4 @@
-use Prim.Native.Nat.{◌-◌, ◌≤◌}
+use Prim.Native.Nat.{◌≤◌}
 use Rattle.block_test.specs.Sweep.{Looked}
 use Rattle.block_test.proofs.look.Given as goal
 

@@ -23,10 +23,10 @@ loop-s-preserved c =
     let m = table_at 8 a.head.now 32 in
     let e = linked_at a.kind l.s a.p (omega arith) (omega arith) (omega arith) (omega arith) a.top m in
     let x : c.if-stands.front ≡ front_of a.top m ((a.kind * 8 + a.p) * 8 + l.s) =
-        elim c.if-stands.branch [
-          then-stands w ↦ let t = rw c.limit.ensures at w.if-stands.true in w.front-is ∙ sym (rw t at e)
-          | else-stands w ↦ let t = rw c.limit.ensures at w.if-stands.false in w.front-is ∙ sym (rw t at e)
-        ]
+    elim c.if-stands.branch [
+      | then-stands w ↦ let t = rw c.limit.ensures at w.if-stands.true in w.front-is ∙ sym (rw t at e)
+      | else-stands w ↦ let t = rw c.limit.ensures at w.if-stands.false in w.front-is ∙ sym (rw t at e)
+    ]
     in
     (omega arith, row_more a.top m (a.kind * 8 + a.p) l.s a.r.now l.r c.if-stands.front (omega arith) (omega arith) x l.invariant.1)
 
