@@ -6,7 +6,8 @@ use lib.ListN.{length}
 use Rattle.clock.specs.Order.{verdict_of}
 use Rattle.record.specs.Record.{parse_record, well_made_record}
 use Rattle.record.specs.declared.Record.{Record}
-use Rattle.verdict.specs.declared.Compared.TheVariants.{Ordered, Refused}
+use Rattle.std.specs.Prelude.{Ok, Err}
+use Rattle.refusals.specs.declared.Refusal.TheVariants.{DifferentPhases}
 use mathlib.Core.Path.{◌≡◌, refl, ◌∙◌, sym}
 use native.Mathlib.Omega.{arith}
 use borrow.Author.Tests.{not-true, eq-eqb, ne_eqb}
@@ -15,7 +16,7 @@ use Rattle.verdict.specs.Compare.{verdict_on, verdict_of_bytes}
 use Rattle.verdict.proofs.compare.Goals as goal
 
 -- the verdict by the records that were read
-decided : (a b : List ℕ) (x y : Record) → x ≡ parse_record a → y ≡ parse_record b → verdict_of_bytes a b ≡ cond (eqb x.phase y.phase) (Ordered (verdict_of x.counts y.counts)) (Refused 10)
+decided : (a b : List ℕ) (x y : Record) → x ≡ parse_record a → y ≡ parse_record b → verdict_of_bytes a b ≡ cond (eqb x.phase y.phase) (Ok (verdict_of x.counts y.counts)) (Err DifferentPhases)
 unfolding verdict_of_bytes
 decided a b x y e f = rw (e, f)
 
