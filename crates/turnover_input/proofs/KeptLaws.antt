@@ -1,9 +1,10 @@
 -- The text of a command has at most 19 bytes, so the first 32 bytes of a line say what the line says. Assumes nothing.
 use Prim.Native.Nat.{ℕ, ◌+◌, ◌<◌, ◌≤◌}
 use mathlib.Core.Path.{◌≡◌, refl, ◌∙◌, sym, ap, subst}
-use mathlib.Core.Bool.{Bool, true, false, cond, ◌&&◌, false≢true}
-use mathlib.Core.Logic.{inl, inr, ◌↔◌}
+use mathlib.Core.Bool.{Bool, true, false, cond, ◌&&◌}
+use mathlib.Core.Logic.{◌↔◌}
 use mathlib.Core.List.{List, [], ◌∷◌, ◌++◌}
+use Rattle.std.proofs.Common.{Option, None, Some}
 use native.Mathlib.Omega.{arith}
 use native.Mathlib.Decide.{dec_le}
 use native.Mathlib.Numerals.{add-one}
@@ -18,7 +19,7 @@ use Rattle.turnover_input.specs.Parse.{parse_of}
 use Rattle.turnover_input.proofs.MadeLaws.{below2, below3}
 use Rattle.turnover_input.proofs.TextLaws.{means_parse}
 use Rattle.turnover_input.specs.declared.command.Command.{Command}
-use Rattle.turnover_input.specs.declared.command.Command.TheVariants.{Net, Allow, Link, Enter, Send, Recv, Start, Bad}
+use Rattle.turnover_input.specs.declared.command.Command.TheVariants.{Net, Allow, Link, Enter, Send, Recv, Start}
 use Rattle.turnover_input.specs.Kept.{HoldsLine}
 
 -- ---- a text is short
@@ -47,18 +48,17 @@ text_short b (Send i j r) e =
     simp length-append (omega (arith, station-short i h.0, station-short j h.1, decimal-length 9 r (omega arith)))
 text_short b (Recv i j) e = let h = below2 i 8 j 8 e in simp length-append (omega (arith, station-short i h.0, station-short j h.1))
 text_short b (Start i) e = simp length-append (omega (arith, station-short i (ltb-true i 8 e)))
-text_short b Bad e = absurd (false≢true e)
 
 -- ---- the first 32 bytes of a line say what the line says
-pub said-whole : (t : List ℕ) (c : Command) → Means (take 32 t) c → Means t c
-said-whole t c s = go (dec_le (length t) 32) s
+pub said-whole : (t : List ℕ) (r : Option Command) → Means (take 32 t) r → Means t r
+said-whole t r s = go (dec_le (length t) 32) r s
   where
-    go : Dec (length t ≤ 32) → Means (take 32 t) c → Means t c
-    go (yes h) s = subst (λ (l : List ℕ). Means l c) (take_all 32 t h) s
-    go (no h) (inl p) = absurd (omega (arith, text_short p.1.0 c p.0, ap length p.1.1, length-take 32 t))
-    go (no h) (inr p) = inr (p.0, λ d w. omega (arith, text_short w.1.0 d w.0, ap length w.1.1))
+    go : Dec (length t ≤ 32) → (r : Option Command) → Means (take 32 t) r → Means t r
+    go (yes h) r s = subst (λ (l : List ℕ). Means l r) (take_all 32 t h) s
+    go (no h) (Some c) p = absurd (omega (arith, text_short p.1.0 c p.0, ap length p.1.1, length-take 32 t))
+    go (no h) None p = λ d w. omega (arith, text_short w.1.0 d w.0, ap length w.1.1)
 
-pub kept_means : (l : List ℕ) (n : ℕ) (c : Command) → Means (take n l) c → (t : List ℕ) → HoldsLine l n t → (c ≡ parse_of t) × Means t c
+pub kept_means : (l : List ℕ) (n : ℕ) (c : Option Command) → Means (take n l) c → (t : List ℕ) → HoldsLine l n t → (c ≡ parse_of t) × Means t c
 kept_means l n c s t k = let w : Means t c = said-whole t c (rw k.bytes at s) in (means_parse t c w, w)
 
 -- ---- one byte more, and none

@@ -6,11 +6,12 @@ use mathlib.Core.List.{List, [], ◌∷◌, ◌++◌, append_assoc}
 use native.Mathlib.Omega.{arith}
 use lib.Dec.{eqb, ltb}
 use borrow.Author.Tests.{eqb-true, le-ltb, ne_eqb}
+use Rattle.std.proofs.Common.{Option, None, Some}
 use Rattle.decimal.specs.Decimal.{decimal, spaced, parted, digit}
 use Rattle.decimal.proofs.DecimalLaws.{by_digits, decimal-small, decimal_large, digit_of, digit_text, digit-behind}
 use Rattle.turnover_input.specs.Fields.{Item, number, other, end, stuck, more, first, item, first_of, second_of, third_of, numbers_of}
 use Rattle.turnover_input.specs.declared.fields.Numbers.{Numbers}
-use Rattle.turnover_input.specs.declared.fields.Numbers.TheVariants.{One, Two, Three, Malformed}
+use Rattle.turnover_input.specs.declared.fields.Numbers.TheVariants.{One, Two, Three}
 
 -- ---- a text read back
 free : (v d : ℕ) → 0 < v → v * 10 + d < 4294967296 → stuck v (48 + d) ≡ false
@@ -70,15 +71,15 @@ apart (x ∷ l) = refl
 last_text : (x : ℕ) → x < 4294967296 → item (spaced (x ∷ [])) ≡ number x []
 last_text x h = item_text x [] h tt
 
-pub numbers_one : (a : ℕ) → a < 4294967296 → numbers_of (parted (a ∷ [])) ≡ One a
+pub numbers_one : (a : ℕ) → a < 4294967296 → numbers_of (parted (a ∷ [])) ≡ Some (One a)
 unfolding numbers_of
 numbers_one a h = rw (first_text a [] h tt, item_nil)
 
-pub numbers_two : (a b : ℕ) → a < 4294967296 → b < 4294967296 → numbers_of (parted (a ∷ b ∷ [])) ≡ Two a b
+pub numbers_two : (a b : ℕ) → a < 4294967296 → b < 4294967296 → numbers_of (parted (a ∷ b ∷ [])) ≡ Some (Two a b)
 unfolding numbers_of
 numbers_two a b h g = rw (first_text a (spaced (b ∷ [])) h (apart (b ∷ [])), last_text b g, item_nil)
 
-pub numbers-three : (a b c : ℕ) → a < 4294967296 → b < 4294967296 → c < 4294967296 → numbers_of (parted (a ∷ b ∷ c ∷ [])) ≡ Three a b c
+pub numbers-three : (a b c : ℕ) → a < 4294967296 → b < 4294967296 → c < 4294967296 → numbers_of (parted (a ∷ b ∷ c ∷ [])) ≡ Some (Three a b c)
 unfolding numbers_of
 numbers-three a b c h g k =
     rw (first_text a (spaced (b ∷ c ∷ [])) h (apart (b ∷ c ∷ [])), item_text b (spaced (c ∷ [])) g (apart (c ∷ [])), last_text c k)
@@ -163,11 +164,11 @@ item_none (x ∷ l) e = go (eqb x 32) refl
 
 -- ---- all numbers of a line
 -- l is the text of these numbers, where there are any
-abbrev pub Spells : List ℕ → Numbers → Type 0
-Spells l (One a) = l ≡ parted (a ∷ [])
-Spells l (Two a b) = l ≡ parted (a ∷ b ∷ [])
-Spells l (Three a b c) = l ≡ parted (a ∷ b ∷ c ∷ [])
-Spells l Malformed = Unit
+abbrev pub Spells : List ℕ → Option Numbers → Type 0
+Spells l (Some (One a)) = l ≡ parted (a ∷ [])
+Spells l (Some (Two a b)) = l ≡ parted (a ∷ b ∷ [])
+Spells l (Some (Three a b c)) = l ≡ parted (a ∷ b ∷ c ∷ [])
+Spells l None = Unit
 
 third_sound : (l m : List ℕ) (a b : ℕ) → l ≡ decimal a ++ 32 ∷ (decimal b ++ m) → (i : Item) → item m ≡ i → Spells l (third_of a b i)
 third_sound l m a b e end p = rw (item_none m p) at e

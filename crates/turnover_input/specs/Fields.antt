@@ -1,10 +1,9 @@
 -- The numbers of a line, read off its bytes from the left. Assumes nothing.
-use Rattle.std.specs.Prelude.{ℕ, ◌+◌, ◌*◌, ◌-◌, Bool, cond, ◌||◌, List, [], ◌∷◌, eqb, ltb, drop}
+use Rattle.std.specs.Prelude.{ℕ, ◌+◌, ◌*◌, ◌-◌, Bool, cond, ◌||◌, Option, None, Some, List, [], ◌∷◌, eqb, ltb}
+use Rattle.std.specs.Borrow.{Bor}
 use Rattle.decimal.specs.Decimal.{digit}
-use Rattle.turnover_input.specs.declared.fields.Field.{Field}
-use Rattle.turnover_input.specs.declared.fields.Field.TheVariants.{End, Number, Other}
 use Rattle.turnover_input.specs.declared.fields.Numbers.{Numbers}
-use Rattle.turnover_input.specs.declared.fields.Numbers.TheVariants.{One, Two, Three, Malformed}
+use Rattle.turnover_input.specs.declared.fields.Numbers.TheVariants.{One, Two, Three}
 
 -- what a list of bytes starts with: nothing (it is empty), a number and what stands behind it, or something else
 pub data Item : Type 0 where
@@ -35,28 +34,27 @@ unfoldable pub item : List ℕ → Item
 item [] = end
 item (x ∷ l) = cond (eqb x 32) (first l) other
 
--- a field of the line s, as an item
-abbrev pub seen : List ℕ → Field → Item
-seen s End = end
-seen s (Number v n) = number v (drop n s)
-seen s Other = other
+-- a number that was read, and what stands behind it, as an item
+abbrev pub seen : Option (ℕ × Bor (List ℕ)) → Item
+seen None = other
+seen (Some p) = number p.0 p.1.now
 
-abbrev pub third_of : ℕ → ℕ → Item → Numbers
-third_of a b end = Two a b
-third_of a b (number c []) = Three a b c
-third_of a b (number c (x ∷ l)) = Malformed
-third_of a b other = Malformed
+abbrev pub third_of : ℕ → ℕ → Item → Option Numbers
+third_of a b end = Some (Two a b)
+third_of a b (number c []) = Some (Three a b c)
+third_of a b (number c (x ∷ l)) = None
+third_of a b other = None
 
-abbrev pub second_of : ℕ → Item → Numbers
-second_of a end = One a
+abbrev pub second_of : ℕ → Item → Option Numbers
+second_of a end = Some (One a)
 second_of a (number b l) = third_of a b (item l)
-second_of a other = Malformed
+second_of a other = None
 
-abbrev pub first_of : Item → Numbers
-first_of end = Malformed
+abbrev pub first_of : Item → Option Numbers
+first_of end = None
 first_of (number a l) = second_of a (item l)
-first_of other = Malformed
+first_of other = None
 
 -- one, two or three numbers, parted by single spaces, up to the end
-unfoldable pub numbers_of : List ℕ → Numbers
+unfoldable pub numbers_of : List ℕ → Option Numbers
 numbers_of l = first_of (first l)

@@ -1,6 +1,7 @@
 -- A line of any length in 32 bytes. Assumes nothing.
-use Rattle.std.specs.Prelude.{ℕ, min, ◌≤◌, ◌<◌, ◌≡◌, List, ◌++◌, length, take, drop}
-use Rattle.turnover_input.specs.declared.lines.Filled.{Filled}
+use Rattle.std.specs.Prelude.{ℕ, min, ◌<◌, ◌≡◌, Option, None, Some, is_some, List, [], ◌++◌, length, take}
+use Rattle.std.specs.Borrow.{Bor}
+use Rattle.turnover_input.specs.declared.line.Line.{Line}
 use Rattle.turnover_input.specs.Lines.{ends, before, behind}
 
 -- how many bytes of a line are kept
@@ -12,11 +13,19 @@ pub record HoldsLine (buffer : List ℕ) (have : ℕ) (line : List ℕ) : Type 0
   pub count : have ≡ min line_size (length line)
   pub bytes : take have buffer ≡ take line_size line
 
--- the buffer has gone on from `old` to `new` by the bytes from `at` up to the first line feed, or to the end where there is none
-pub record Fills (old : List ℕ) (have : ℕ) (bytes : List ℕ) (at : ℕ) (r : Filled) (new : List ℕ) : Type 0 where
-  pub fits : r.have ≤ line_size
-  pub inside : r.next ≤ length bytes
-  pub on : at < length bytes → at < r.next
-  pub whole : r.whole ≡ ends (drop at bytes)
-  pub rest : drop r.next bytes ≡ behind (drop at bytes)
-  pub line : (t : List ℕ) → HoldsLine old have t → HoldsLine new r.have (t ++ before (drop at bytes))
+-- the line has come as far as this
+abbrev pub Holds : Line → List ℕ → Type 0
+Holds l line = HoldsLine l.bytes l.have line
+
+-- the bytes that are left
+abbrev pub left : Option (Bor (List ℕ)) → List ℕ
+left None = []
+left (Some x) = x.now
+
+-- the line has gone on from `old` to `new` by the bytes up to the first line feed, or to the end where there is none; what stands behind a line
+-- feed is left
+pub record Fills (old : Line) (bytes : List ℕ) (r : Option (Bor (List ℕ))) (new : Line) : Type 0 where
+  pub on : 0 < length bytes → length (left r) < length bytes
+  pub whole : is_some r ≡ ends bytes
+  pub rest : left r ≡ behind bytes
+  pub line : (t : List ℕ) → Holds old t → Holds new (t ++ before bytes)

@@ -1,12 +1,13 @@
 // A line of turnover's input to a command.
-ghost use Rattle.std.specs.Prelude.{◌≡◌};
+ghost use Rattle.std.specs.Prelude.{◌≡◌, None, Some, cond, ltb};
 ghost use Rattle.turnover_input.specs.Text.{Means};
-ghost use Rattle.turnover_input.specs.Parse.{made, of_one, of_two, of_three, link_of, starts_with, parse_of};
+ghost use Rattle.turnover_input.specs.Fields.{numbers_of};
+ghost use Rattle.turnover_input.specs.Parse.{made, of_one, of_two, of_three, link_of, parse_of};
 
-use crate::fields::Numbers;
+use crate::fields::{Numbers, read};
 
 // What a line says.
-#[derive(Clone, Copy)]
+#[derive(Clone, Copy, Debug, PartialEq, Eq)]
 pub enum Command {
     Net {
         n: u8,
@@ -37,166 +38,135 @@ pub enum Command {
     Start {
         station: u8,
     },
-    Bad,
 }
 
 // The limit that a link line means where it names none.
 const DEFAULT_LIMIT: u64 = 16;
 
-fn net(x: Numbers) -> Command
-    ensures { result ≡ of_two Command.Net x }
+// The number of a station.
+fn station(i: u64) -> Option<u8>
+    ensures { result ≡ cond (ltb i 8) (Some i) None }
 {
-    let Numbers::Two(n, t) = x else {
-        return Command::Bad;
-    };
-    if (n < 256) & (t < 65536) {
-        return Command::Net {
-            n: n as u8,
-            t: t as u16,
-        };
-    }
-    Command::Bad
+    if i < 8 { Some(i as u8) } else { None }
 }
 
-fn allow(x: Numbers) -> Command
-    ensures { result ≡ of_two Command.Allow x }
+fn net(rest: &[u8]) -> Option<Command>
+    ensures { result ≡ of_two Command.Net (numbers_of rest.now) }
 {
-    let Numbers::Two(i, a) = x else {
-        return Command::Bad;
+    let Numbers::Two(n, t) = read(rest)? else {
+        return None;
     };
-    if (i < 8) & (a < 65536) {
-        return Command::Allow {
-            station: i as u8,
-            allowance: a as u16,
-        };
-    }
-    Command::Bad
+    Some(Command::Net {
+        n: u8::try_from(n).ok()?,
+        t: u16::try_from(t).ok()?,
+    })
 }
 
-fn limited(i: u64, j: u64, l: u64) -> Command
+fn allow(rest: &[u8]) -> Option<Command>
+    ensures { result ≡ of_two Command.Allow (numbers_of rest.now) }
+{
+    let Numbers::Two(i, a) = read(rest)? else {
+        return None;
+    };
+    Some(Command::Allow {
+        station: station(i)?,
+        allowance: u16::try_from(a).ok()?,
+    })
+}
+
+fn limited(i: u64, j: u64, l: u64) -> Option<Command>
     ensures { result ≡ made (Command.Link i j l) }
 {
-    if (i < 8) & (j < 8) & (l < 256) {
-        return Command::Link {
-            from: i as u8,
-            to: j as u8,
-            limit: l as u8,
-        };
-    }
-    Command::Bad
+    Some(Command::Link {
+        from: station(i)?,
+        to: station(j)?,
+        limit: u8::try_from(l).ok()?,
+    })
 }
 
-fn link(x: Numbers) -> Command
-    ensures { result ≡ link_of x }
+fn link(rest: &[u8]) -> Option<Command>
+    ensures { result ≡ link_of (numbers_of rest.now) }
 {
-    match x {
-        Numbers::One(_) => Command::Bad,
+    match read(rest)? {
+        Numbers::One(_) => None,
         Numbers::Two(i, j) => limited(i, j, DEFAULT_LIMIT),
         Numbers::Three(i, j, l) => limited(i, j, l),
-        Numbers::Malformed => Command::Bad,
     }
 }
 
-fn enter(x: Numbers) -> Command
-    ensures { result ≡ of_two Command.Enter x }
+fn enter(rest: &[u8]) -> Option<Command>
+    ensures { result ≡ of_two Command.Enter (numbers_of rest.now) }
 {
-    let Numbers::Two(i, reg) = x else {
-        return Command::Bad;
+    let Numbers::Two(i, reg) = read(rest)? else {
+        return None;
     };
-    if (i < 8) & (reg < 4294967296) {
-        return Command::Enter {
-            station: i as u8,
-            register: reg as u32,
-        };
-    }
-    Command::Bad
+    Some(Command::Enter {
+        station: station(i)?,
+        register: u32::try_from(reg).ok()?,
+    })
 }
 
-fn send(x: Numbers) -> Command
-    ensures { result ≡ of_three Command.Send x }
+fn send(rest: &[u8]) -> Option<Command>
+    ensures { result ≡ of_three Command.Send (numbers_of rest.now) }
 {
-    let Numbers::Three(i, j, reg) = x else {
-        return Command::Bad;
+    let Numbers::Three(i, j, reg) = read(rest)? else {
+        return None;
     };
-    if (i < 8) & (j < 8) & (reg < 4294967296) {
-        return Command::Send {
-            station: i as u8,
-            peer: j as u8,
-            register: reg as u32,
-        };
-    }
-    Command::Bad
+    Some(Command::Send {
+        station: station(i)?,
+        peer: station(j)?,
+        register: u32::try_from(reg).ok()?,
+    })
 }
 
-fn recv(x: Numbers) -> Command
-    ensures { result ≡ of_two Command.Recv x }
+fn recv(rest: &[u8]) -> Option<Command>
+    ensures { result ≡ of_two Command.Recv (numbers_of rest.now) }
 {
-    let Numbers::Two(i, j) = x else {
-        return Command::Bad;
+    let Numbers::Two(i, j) = read(rest)? else {
+        return None;
     };
-    if (i < 8) & (j < 8) {
-        return Command::Recv {
-            station: i as u8,
-            peer: j as u8,
-        };
-    }
-    Command::Bad
+    Some(Command::Recv {
+        station: station(i)?,
+        peer: station(j)?,
+    })
 }
 
-fn start(x: Numbers) -> Command
-    ensures { result ≡ of_one Command.Start x }
+fn start(rest: &[u8]) -> Option<Command>
+    ensures { result ≡ of_one Command.Start (numbers_of rest.now) }
 {
-    let Numbers::One(i) = x else {
-        return Command::Bad;
+    let Numbers::One(i) = read(rest)? else {
+        return None;
     };
-    if i < 8 {
-        return Command::Start { station: i as u8 };
-    }
-    Command::Bad
+    Some(Command::Start {
+        station: station(i)?,
+    })
 }
 
-// A fixed word at the start of a line.
-fn starts(word: &[u8], line: &[u8]) -> bool
-    ensures { result ≡ starts_with word.now line.now }
-{
-    let mut i = 0;
-    while i < word.len() {
-        if line.len() <= i {
-            return false;
-        }
-        if word[i] != line[i] {
-            return false;
-        }
-        i += 1;
-    }
-    true
-}
-
-// The command that a line says.
-pub fn parse(line: &[u8]) -> Command
+// The command that a line says, if it says one.
+pub fn parse(line: &[u8]) -> Option<Command>
     ensures value { result ≡ parse_of line.now }
     ensures means { Means line.now result }
 {
-    if starts(b"net ", line) {
-        return net(crate::fields::numbers_at(line, 4));
+    if let Some(rest) = line.strip_prefix(b"net ") {
+        return net(rest);
     }
-    if starts(b"allow ", line) {
-        return allow(crate::fields::numbers_at(line, 6));
+    if let Some(rest) = line.strip_prefix(b"allow ") {
+        return allow(rest);
     }
-    if starts(b"link ", line) {
-        return link(crate::fields::numbers_at(line, 5));
+    if let Some(rest) = line.strip_prefix(b"link ") {
+        return link(rest);
     }
-    if starts(b"enter ", line) {
-        return enter(crate::fields::numbers_at(line, 6));
+    if let Some(rest) = line.strip_prefix(b"enter ") {
+        return enter(rest);
     }
-    if starts(b"send ", line) {
-        return send(crate::fields::numbers_at(line, 5));
+    if let Some(rest) = line.strip_prefix(b"send ") {
+        return send(rest);
     }
-    if starts(b"recv ", line) {
-        return recv(crate::fields::numbers_at(line, 5));
+    if let Some(rest) = line.strip_prefix(b"recv ") {
+        return recv(rest);
     }
-    if starts(b"start ", line) {
-        return start(crate::fields::numbers_at(line, 6));
+    if let Some(rest) = line.strip_prefix(b"start ") {
+        return start(rest);
     }
-    Command::Bad
+    None
 }

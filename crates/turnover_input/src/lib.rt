@@ -3,4 +3,5 @@
 
 pub mod command;
 pub mod fields;
+pub mod line;
 pub mod lines;

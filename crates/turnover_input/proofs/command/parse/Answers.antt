@@ -1,52 +1,62 @@
 use mathlib.Core.Path.{◌∙◌}
+use Rattle.decimal.specs.Ascii.{ascii}
 use Rattle.turnover_input.specs.Parse.{parse_of}
+use Rattle.turnover_input.proofs.StartLaws.{begins}
 use Rattle.turnover_input.proofs.TextLaws.{both_ways_lem}
 use Rattle.turnover_input.proofs.command.parse.Goals as goal
 
-pub returns-then-starts : goal.returns-then-starts
+pub returns-in-Some : goal.returns-in-Some
 unfolding parse_of
-returns-then-starts c =
-    let b = both_ways_lem c.args.line.now _ (c.net.ensures ∙ rw (c.numbers_at.ensures, ← c.starts.ensures, c.if-starts.true)) in
+returns-in-Some c =
+    let l = c.args.line.now in
+    let b = both_ways_lem l _ (c.net.ensures ∙ rw (← begins (ascii "net ") l, c.in-Some.ensures.cases.0, ← c.in-Some.ensures.cases.1)) in
     record { value = b.0; means = b.1 }
 
-pub returns-then-starts-2 : goal.returns-then-starts-2
+pub returns-in-Some-strip_prefix : goal.returns-in-Some-strip_prefix
 unfolding parse_of
-returns-then-starts-2 c =
-    let b = both_ways_lem c.args.line.now _ (c.allow.ensures ∙ rw (c.numbers_at-then-starts-2.ensures, ← c.starts.ensures, c.if-starts.false, ← c.starts-2.ensures, c.if-starts-2.true)) in
+returns-in-Some-strip_prefix c =
+    let l = c.args.line.now in
+    let b = both_ways_lem l _ (c.allow.ensures ∙ rw (← begins (ascii "net ") l, c.in_default.ensures.cases, ← begins (ascii "allow ") l, c.in-Some-strip_prefix.ensures.cases.0, ← c.in-Some-strip_prefix.ensures.cases.1)) in
     record { value = b.0; means = b.1 }
 
-pub returns-then-starts-3 : goal.returns-then-starts-3
+pub returns-in-Some-strip_prefix-2 : goal.returns-in-Some-strip_prefix-2
 unfolding parse_of
-returns-then-starts-3 c =
-    let b = both_ways_lem c.args.line.now _ (c.link.ensures ∙ rw (c.numbers_at-then-starts-3.ensures, ← c.starts.ensures, c.if-starts.false, ← c.starts-2.ensures, c.if-starts-2.false, ← c.starts-3.ensures, c.if-starts-3.true)) in
+returns-in-Some-strip_prefix-2 c =
+    let l = c.args.line.now in
+    let b = both_ways_lem l _ (c.link.ensures ∙ rw (← begins (ascii "net ") l, c.in_default.ensures.cases, ← begins (ascii "allow ") l, c.in_default-strip_prefix.ensures.cases, ← begins (ascii "link ") l, c.in-Some-strip_prefix-2.ensures.cases.0, ← c.in-Some-strip_prefix-2.ensures.cases.1)) in
     record { value = b.0; means = b.1 }
 
-pub returns-then-starts-4 : goal.returns-then-starts-4
+pub returns-in-Some-strip_prefix-3 : goal.returns-in-Some-strip_prefix-3
 unfolding parse_of
-returns-then-starts-4 c =
-    let b = both_ways_lem c.args.line.now _ (c.enter.ensures ∙ rw (c.numbers_at-then-starts-4.ensures, ← c.starts.ensures, c.if-starts.false, ← c.starts-2.ensures, c.if-starts-2.false, ← c.starts-3.ensures, c.if-starts-3.false, ← c.starts-4.ensures, c.if-starts-4.true)) in
+returns-in-Some-strip_prefix-3 c =
+    let l = c.args.line.now in
+    let b = both_ways_lem l _ (c.enter.ensures ∙ rw (← begins (ascii "net ") l, c.in_default.ensures.cases, ← begins (ascii "allow ") l, c.in_default-strip_prefix.ensures.cases, ← begins (ascii "link ") l, c.in_default-strip_prefix-2.ensures.cases, ← begins (ascii "enter ") l, c.in-Some-strip_prefix-3.ensures.cases.0, ← c.in-Some-strip_prefix-3.ensures.cases.1)) in
     record { value = b.0; means = b.1 }
 
-pub returns-then-starts-5 : goal.returns-then-starts-5
+pub returns-in-Some-strip_prefix-4 : goal.returns-in-Some-strip_prefix-4
 unfolding parse_of
-returns-then-starts-5 c =
-    let b = both_ways_lem c.args.line.now _ (c.send.ensures ∙ rw (c.numbers_at-then-starts-5.ensures, ← c.starts.ensures, c.if-starts.false, ← c.starts-2.ensures, c.if-starts-2.false, ← c.starts-3.ensures, c.if-starts-3.false, ← c.starts-4.ensures, c.if-starts-4.false, ← c.starts-5.ensures, c.if-starts-5.true)) in
+returns-in-Some-strip_prefix-4 c =
+    let l = c.args.line.now in
+    let b = both_ways_lem l _ (c.send.ensures ∙ rw (← begins (ascii "net ") l, c.in_default.ensures.cases, ← begins (ascii "allow ") l, c.in_default-strip_prefix.ensures.cases, ← begins (ascii "link ") l, c.in_default-strip_prefix-2.ensures.cases, ← begins (ascii "enter ") l, c.in_default-strip_prefix-3.ensures.cases, ← begins (ascii "send ") l, c.in-Some-strip_prefix-4.ensures.cases.0, ← c.in-Some-strip_prefix-4.ensures.cases.1)) in
     record { value = b.0; means = b.1 }
 
-pub returns-then-starts-6 : goal.returns-then-starts-6
+pub returns-in-Some-strip_prefix-5 : goal.returns-in-Some-strip_prefix-5
 unfolding parse_of
-returns-then-starts-6 c =
-    let b = both_ways_lem c.args.line.now _ (c.recv.ensures ∙ rw (c.numbers_at-then-starts-6.ensures, ← c.starts.ensures, c.if-starts.false, ← c.starts-2.ensures, c.if-starts-2.false, ← c.starts-3.ensures, c.if-starts-3.false, ← c.starts-4.ensures, c.if-starts-4.false, ← c.starts-5.ensures, c.if-starts-5.false, ← c.starts-6.ensures, c.if-starts-6.true)) in
+returns-in-Some-strip_prefix-5 c =
+    let l = c.args.line.now in
+    let b = both_ways_lem l _ (c.recv.ensures ∙ rw (← begins (ascii "net ") l, c.in_default.ensures.cases, ← begins (ascii "allow ") l, c.in_default-strip_prefix.ensures.cases, ← begins (ascii "link ") l, c.in_default-strip_prefix-2.ensures.cases, ← begins (ascii "enter ") l, c.in_default-strip_prefix-3.ensures.cases, ← begins (ascii "send ") l, c.in_default-strip_prefix-4.ensures.cases, ← begins (ascii "recv ") l, c.in-Some-strip_prefix-5.ensures.cases.0, ← c.in-Some-strip_prefix-5.ensures.cases.1)) in
     record { value = b.0; means = b.1 }
 
-pub returns-then-starts-7 : goal.returns-then-starts-7
+pub returns-in-Some-strip_prefix-6 : goal.returns-in-Some-strip_prefix-6
 unfolding parse_of
-returns-then-starts-7 c =
-    let b = both_ways_lem c.args.line.now _ (c.start.ensures ∙ rw (c.numbers_at-then-starts-7.ensures, ← c.starts.ensures, c.if-starts.false, ← c.starts-2.ensures, c.if-starts-2.false, ← c.starts-3.ensures, c.if-starts-3.false, ← c.starts-4.ensures, c.if-starts-4.false, ← c.starts-5.ensures, c.if-starts-5.false, ← c.starts-6.ensures, c.if-starts-6.false, ← c.starts-7.ensures, c.if-starts-7.true)) in
+returns-in-Some-strip_prefix-6 c =
+    let l = c.args.line.now in
+    let b = both_ways_lem l _ (c.start.ensures ∙ rw (← begins (ascii "net ") l, c.in_default.ensures.cases, ← begins (ascii "allow ") l, c.in_default-strip_prefix.ensures.cases, ← begins (ascii "link ") l, c.in_default-strip_prefix-2.ensures.cases, ← begins (ascii "enter ") l, c.in_default-strip_prefix-3.ensures.cases, ← begins (ascii "send ") l, c.in_default-strip_prefix-4.ensures.cases, ← begins (ascii "recv ") l, c.in_default-strip_prefix-5.ensures.cases, ← begins (ascii "start ") l, c.in-Some-strip_prefix-6.ensures.cases.0, ← c.in-Some-strip_prefix-6.ensures.cases.1)) in
     record { value = b.0; means = b.1 }
 
 pub returns : goal.returns
 unfolding parse_of
 returns c =
-    let b = both_ways_lem c.args.line.now _ (rw (← c.starts.ensures, c.if-starts.false, ← c.starts-2.ensures, c.if-starts-2.false, ← c.starts-3.ensures, c.if-starts-3.false, ← c.starts-4.ensures, c.if-starts-4.false, ← c.starts-5.ensures, c.if-starts-5.false, ← c.starts-6.ensures, c.if-starts-6.false, ← c.starts-7.ensures, c.if-starts-7.false)) in
+    let l = c.args.line.now in
+    let b = both_ways_lem l _ (rw (← begins (ascii "net ") l, c.in_default.ensures.cases, ← begins (ascii "allow ") l, c.in_default-strip_prefix.ensures.cases, ← begins (ascii "link ") l, c.in_default-strip_prefix-2.ensures.cases, ← begins (ascii "enter ") l, c.in_default-strip_prefix-3.ensures.cases, ← begins (ascii "send ") l, c.in_default-strip_prefix-4.ensures.cases, ← begins (ascii "recv ") l, c.in_default-strip_prefix-5.ensures.cases, ← begins (ascii "start ") l, c.in_default-strip_prefix-6.ensures.cases)) in
     record { value = b.0; means = b.1 }

@@ -1,5 +1,7 @@
-use Rattle.turnover_input.proofs.FieldLaws.{third_more}
+use mathlib.Core.Path.{◌∙◌, sym}
+use borrow.Author.Tests.{eqb-true}
+use Rattle.turnover_input.proofs.FieldLaws.{item_none}
 use Rattle.turnover_input.proofs.fields.third.Goals as goal
 
-pub returns-then-next-line : goal.returns-then-next-line
-returns-then-next-line c = rw (← c.field_at-f.ensures, c.in-Number.is) (third_more _ _ _ _ _ c.if-next-line.true)
+pub returns-then-is_empty : goal.returns-then-is_empty
+returns-then-is_empty c = rw (item_none c.args.line.now (eqb-true _ 0 (sym c.is_empty.ensures ∙ c.if-is_empty.true)))
