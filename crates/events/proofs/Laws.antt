@@ -19,8 +19,6 @@ use Rattle.entries.specs.Entries.{count_of, record_of}
 use Rattle.archive.specs.Archive.{block_of, blocks, archive_test, records, record_at}
 use Rattle.archive.proofs.Laws.{test-blocks}
 use Rattle.archive.proofs.Tested.{block-numbers, record_place, record_well_made, records-most}
-use Rattle.events.specs.Places.{InPlace}
-use Rattle.events.specs.declared.Place.{Place}
 use Rattle.events.specs.Events.{event_at, station_at, own_at}
 
 -- the part of an archive that is lent for a block
@@ -90,16 +88,16 @@ module _ (a : List ℕ) (tested : archive_test a ≡ true) where
     pub block_end : (k : ℕ) → b * 15 + count_of (block_of a b) ≤ k → k < b * 15 + 15 → records a ≤ k
     block_end k l m = omega (arith, (block-numbers a tested b known).1)
 
--- the record at a place stands in the archive's bytes
-pub place_long : (a : List ℕ) → archive_test a ≡ true → (p : Place) → InPlace p → p.number < records a → (p.block + 1) * 512 + 512 ≤ length a
-place_long a t p h l = omega (arith, test-blocks a t, records-most a t)
+-- record 15 b + k stands in the archive's bytes at place k of block b
+module _ (a : List ℕ) (tested : archive_test a ≡ true) (n b k : ℕ) (stands : n ≡ b * 15 + k) (low : k < 15) (below : n < records a) where
+  pub place_long : (b + 1) * 512 + 512 ≤ length a
+  place_long = omega (arith, test-blocks a tested, records-most a tested)
 
-pub place_part : (a : List ℕ) → archive_test a ≡ true → (p : Place) → InPlace p → p.number < records a → (o : ℕ) → o ≡ record_start p.at
-    → take ((p.block + 1) * 512 + o + 32 - ((p.block + 1) * 512 + o)) (drop ((p.block + 1) * 512 + o) a) ≡ record_at a p.number
-unfolding record_at
-place_part a t p h l o e =
-    let i : p.number / 15 ≡ p.block = omega arith in
-    let j : p.number % 15 ≡ p.at = omega arith in
-    let f : (p.block + 1) * 512 + o + 32 - ((p.block + 1) * 512 + o) ≡ 32 = omega arith in
-    let g : p.block + 1 < length a / 512 = omega (arith, place_long a t p h l) in
-    rw (i, j, f, lt-ltb _ _ g, ← e)
+  pub place_part : (o : ℕ) → o ≡ record_start k → take ((b + 1) * 512 + o + 32 - ((b + 1) * 512 + o)) (drop ((b + 1) * 512 + o) a) ≡ record_at a n
+  unfolding record_at
+  place_part o e =
+      let i : n / 15 ≡ b = omega arith in
+      let j : n % 15 ≡ k = omega arith in
+      let f : (b + 1) * 512 + o + 32 - ((b + 1) * 512 + o) ≡ 32 = omega arith in
+      let g : b + 1 < length a / 512 = omega (arith, place_long) in
+      rw (i, j, f, lt-ltb _ _ g, ← e)

@@ -11,9 +11,9 @@ pub overflow_mul-o : goal.overflow_mul-o
 unfolding blocks
 overflow_mul-o c = omega arith
 
-pub overflow_add-e : goal.overflow_add-e
+pub overflow_add-result : goal.overflow_add-result
 unfolding blocks
-overflow_add-e c = omega arith
+overflow_add-result c = omega arith
 
 pub slice_bounds-result-end : goal.slice_bounds-result-end
 unfolding blocks

@@ -6,5 +6,5 @@ use Rattle.events.proofs.count_in.Goals as goal
 
 pub returns : goal.returns
 returns c =
-    (rw (part_record _ _ _ c.start_of-at.ensures) at c.get16.ensures)
+    (rw (part_record _ _ _ c.start_of-o.ensures) at c.get.ensures)
     ∙ sym (nums_get 2 8 (record_of c.args.block.now c.args.k) 16 c.args.s c.requires.2)

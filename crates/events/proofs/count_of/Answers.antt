@@ -6,12 +6,12 @@ use Rattle.archive.proofs.Tested.{record_length_lem}
 use Rattle.events.specs.Events.{event_at}
 use Rattle.events.proofs.count_of.Goals as goal
 
-pub get16-requires : goal.get16-requires
-get16-requires c =
-    rw c.part_of-part.ensures (omega (arith, record_length_lem c.args.a.now c.requires.0 c.args.p.number c.requires.2))
+pub get-requires : goal.get-requires
+get-requires c =
+    rw c.part_of.ensures (omega (arith, record_length_lem c.args.archive.bytes.now c.args.archive.tested c.args.p.number c.requires.0))
 
 pub returns : goal.returns
 unfolding event_at
 returns c =
-    (rw c.part_of-part.ensures at c.get16.ensures)
-    ∙ sym (nums_get 2 8 (record_at c.args.a.now c.args.p.number) 16 c.args.s c.requires.3)
+    (rw c.part_of.ensures at c.get.ensures)
+    ∙ sym (nums_get 2 8 (record_at c.args.archive.bytes.now c.args.p.number) 16 c.args.s c.requires.1)

@@ -5,8 +5,8 @@ use Rattle.events.proofs.event_of.Goals as goal
 
 pub load-requires : goal.load-requires
 load-requires c =
-    rw c.part_of-part.ensures (omega (arith, record_length_lem c.args.a.now c.requires.0 c.args.p.number c.requires.2))
+    rw c.part_of.ensures (omega (arith, record_length_lem c.args.archive.bytes.now c.args.archive.tested c.args.p.number c.requires))
 
 pub returns : goal.returns
 unfolding event_at
-returns c = rw (← c.part_of-part.ensures) c.load.ensures
+returns c = rw (← c.part_of.ensures) c.load.ensures
