@@ -9,13 +9,7 @@ ghost use Rattle.rules.specs.Table.{column_of, turned_of};
 
 use header::Header;
 
-fn wide16(x: u16) -> u32
-    ensures { (result ≡ x) × (result < 65536) }
-{
-    x as u32
-}
-
-// The limits of the links to station j.
+// The limits of the links to station j. Written out: the loop over a range needs an invariant that is longer.
 fn column(limits: [[u8; 8]; 8], j: usize) -> [u8; 8]
     requires { j < 8 }
     ensures { result ≡ column_of limits j }
@@ -48,36 +42,77 @@ fn turned(limits: [[u8; 8]; 8]) -> [[u8; 8]; 8]
     ]
 }
 
-// Station i has a link to another exactly where it has one from there. No early exit, so that the row is vectorised.
-fn row_both_ways(limits: [[u8; 8]; 8], back: [[u8; 8]; 8], i: usize) -> bool
-    requires { (i < 8) × (back ≡ turned_of limits) }
-    ensures { result ≡ every 8 (both_or_none limits i) }
-{
-    let mut ok = true;
-    let mut j = 0;
-    while j < 8 {
-        let out = limits[i][j];
-        let into = back[i][j];
-        ok = ok & ((out == 0) == (into == 0));
-        j += 1;
-    }
-    ok
+// The limits by sender, and by receiver.
+#[derive(Clone, Copy)]
+struct Links {
+    limits: [[u8; 8]; 8],
+    back: [[u8; 8]; 8],
+    ghost turned: { back ≡ turned_of limits },
 }
 
-// No station has a link to itself, and every link has one back.
-fn linked_both_ways(limits: [[u8; 8]; 8], back: [[u8; 8]; 8]) -> bool
-    requires { back ≡ turned_of limits }
-    ensures { result ≡ (zero_diagonal limits && linked_both_ways limits) }
-{
-    let mut i = 0;
-    while i < 8 {
-        let own = limits[i][i];
-        if !((own == 0) & row_both_ways(limits, back, i)) {
-            return false;
+impl Links {
+    fn new(limits: [[u8; 8]; 8]) -> Links
+        ensures { result.limits ≡ limits }
+    {
+        Links {
+            limits,
+            back: turned(limits),
         }
-        i += 1;
     }
-    true
+
+    // Station i has a link to another exactly where it has one from there. No early exit, so that the row is vectorised.
+    fn row_both_ways(self, i: usize) -> bool
+        requires { i < 8 }
+        ensures { result ≡ every 8 (both_or_none self.limits i) }
+    {
+        let mut ok = true;
+        for j in 0..8 {
+            ok &= (self.limits[i][j] == 0) == (self.back[i][j] == 0);
+        }
+        ok
+    }
+
+    // No station has a link to itself, and every link has one back.
+    fn linked_both_ways(self) -> bool
+        ensures { result ≡ (zero_diagonal self.limits && linked_both_ways self.limits) }
+    {
+        for i in 0..8 {
+            let own = self.limits[i][i];
+            if !((own == 0) & self.row_both_ways(i)) {
+                return false;
+            }
+        }
+        true
+    }
+
+    // The limits of station i's links, out and in, added up.
+    fn around(self, i: usize) -> u32
+        requires { i < 8 }
+        ensures { (result ≡ sum 8 (between self.limits i)) × (result ≤ 4080) }
+    {
+        let mut s: u32 = 0;
+        for j in 0..8 {
+            let out = self.limits[i][j];
+            let into = self.back[i][j];
+            s += u32::from(out) + u32::from(into);
+        }
+        s
+    }
+
+    // Stations n and above have no allowance, and each station's allowance and limits are at most t together.
+    fn allowances_fit(self, h: Header) -> bool
+        ensures { result ≡ (every 8 (allowance_below h.n h.allowances) && within_ceiling h.t h.allowances self.limits) }
+    {
+        let top = usize::from(h.n);
+        let ceiling = u32::from(h.t);
+        for i in 0..8 {
+            let own = h.allowances[i];
+            if !(((i < top) | (own == 0)) & (u32::from(own) + self.around(i) <= ceiling)) {
+                return false;
+            }
+        }
+        true
+    }
 }
 
 // Station i has no link to stations n and above, and none at all where it is one of them.
@@ -85,14 +120,12 @@ fn row_below(n: u8, limits: [[u8; 8]; 8], i: usize) -> bool
     requires { i < 8 }
     ensures { result ≡ every 8 (limit_below n limits i) }
 {
-    let top = n as usize;
-    let mut j = 0;
-    while j < 8 {
+    let top = usize::from(n);
+    for j in 0..8 {
         let out = limits[i][j];
         if !(((i < top) & (j < top)) | (out == 0)) {
             return false;
         }
-        j += 1;
     }
     true
 }
@@ -101,52 +134,10 @@ fn row_below(n: u8, limits: [[u8; 8]; 8], i: usize) -> bool
 fn links_below(n: u8, limits: [[u8; 8]; 8]) -> bool
     ensures { result ≡ every 8 (λ (i : ℕ). every 8 (limit_below n limits i)) }
 {
-    let mut i = 0;
-    while i < 8 {
+    for i in 0..8 {
         if !row_below(n, limits, i) {
             return false;
         }
-        i += 1;
-    }
-    true
-}
-
-// The limits of station i's links, out and in, added up.
-fn around(limits: [[u8; 8]; 8], back: [[u8; 8]; 8], i: usize) -> u32
-    requires { (i < 8) × (back ≡ turned_of limits) }
-    ensures { (result ≡ sum 8 (between limits i)) × (result ≤ 4080) }
-{
-    let mut s: u32 = 0;
-    let mut j = 0;
-    while j < 8 {
-        let out = limits[i][j];
-        let into = back[i][j];
-        s += codec::wide32(out) + codec::wide32(into);
-        j += 1;
-    }
-    s
-}
-
-// Stations n and above have no allowance, and each station's allowance and limits are at most t together.
-fn allowances_fit(
-    n: u8,
-    t: u16,
-    allowances: [u16; 8],
-    limits: [[u8; 8]; 8],
-    back: [[u8; 8]; 8],
-) -> bool
-    requires { back ≡ turned_of limits }
-    ensures { result ≡ (every 8 (allowance_below n allowances) && within_ceiling t allowances limits) }
-{
-    let top = n as usize;
-    let ceiling = wide16(t);
-    let mut i = 0;
-    while i < 8 {
-        let own = allowances[i];
-        if !(((i < top) | (own == 0)) & (wide16(own) + around(limits, back, i) <= ceiling)) {
-            return false;
-        }
-        i += 1;
     }
     true
 }
@@ -155,10 +146,7 @@ fn allowances_fit(
 pub fn setup_fits(h: Header, limits: [[u8; 8]; 8]) -> bool
     ensures { result ≡ network_rules (header_config h limits) }
 {
-    let allowances = h.allowances;
-    let back = turned(limits);
-    linked_both_ways(limits, back)
-        & (links_below(h.n, limits)
-            & (reach::every_reached(h.n, limits)
-                & allowances_fit(h.n, h.t, allowances, limits, back)))
+    let links = Links::new(limits);
+    links.linked_both_ways()
+        & (links_below(h.n, limits) & (reach::every_reached(h.n, limits) & links.allowances_fit(h)))
 }

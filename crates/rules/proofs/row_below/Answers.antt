@@ -1,4 +1,3 @@
-use Prim.Native.Nat.{◌-◌}
 use mathlib.Core.Path.{◌≡◌, sym}
 use native.Mathlib.Omega.{arith}
 use Rattle.codec.proofs.EveryLaws.{every_none, every_more, every_fails}
@@ -11,11 +10,11 @@ loop-j-init c = (omega arith, every_none _)
 
 pub returns-then-not-i-top : goal.returns-then-not-i-top
 unfolding limit
-returns-then-not-i-top c = sym (every_fails 8 _ c.loop-j.j (omega arith) c.if-not-i-top.true)
+returns-then-not-i-top c = sym (every_fails 8 _ c.loop-j.j (omega arith) (rw c.from-top.ensures at c.if-not-i-top.true))
 
 pub loop-j-preserved : goal.loop-j-preserved
 unfolding limit
-loop-j-preserved c = (omega arith, every_more _ _ c.loop-j.invariant.1 c.if-not-i-top.false)
+loop-j-preserved c = (omega arith, every_more _ _ c.loop-j.invariant.1 (rw c.from-top.ensures at c.if-not-i-top.false))
 
 pub returns : goal.returns
 unfolding limit

@@ -25,5 +25,5 @@ grouped n t a m = regroup (zero_diagonal m) (linked_both_ways m) (every 8 (allow
 
 pub returns : goal.returns
 returns c =
-    rw (c.allowances_fit.ensures, c.every_reached.ensures, c.links_below.ensures, c.linked_both_ways.ensures)
+    rw (c.allowances_fit.ensures, c.every_reached.ensures, c.links_below.ensures, c.linked_both_ways.ensures, c.new-links.ensures)
     (grouped _ _ _ _)

@@ -1,11 +1,10 @@
-use Prim.Native.Nat.{◌-◌}
 use mathlib.Core.Path.{◌≡◌, sym}
 use native.Mathlib.Omega.{arith}
 use Rattle.codec.proofs.EveryLaws.{every_none}
 use Rattle.codec.proofs.FlagLaws.{every_turn}
 use Rattle.reset.specs.Reach.{limit}
 use Rattle.rules.proofs.TableLaws.{turned_at}
-use Rattle.rules.proofs.row_both_ways.Goals as goal
+use Rattle.rules.proofs.Links.row_both_ways.Goals as goal
 
 pub loop-j-init : goal.loop-j-init
 loop-j-init c = (omega arith, sym (every_none _))
@@ -14,7 +13,7 @@ pub loop-j-preserved : goal.loop-j-preserved
 unfolding limit
 loop-j-preserved c =
     let l = c.loop-j in
-    (omega arith, simp (every_turn, l.invariant.1, c.requires.1, turned_at c.args.limits c.args.i l.j c.requires.0 (omega arith)))
+    (omega arith, simp (every_turn, l.invariant.1, c.args.self.turned, turned_at c.args.self.limits c.args.i l.j c.requires (omega arith)))
 
 pub returns : goal.returns
 returns c = let e : c.loop-j.j ≡ 8 = omega arith in rw e at c.loop-j.invariant.1

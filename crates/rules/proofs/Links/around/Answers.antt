@@ -1,4 +1,3 @@
-use Prim.Native.Nat.{◌-◌}
 use mathlib.Core.Path.{◌≡◌, sym}
 use native.Mathlib.Omega.{arith}
 use mathlib.Core.List.{[]}
@@ -7,7 +6,7 @@ use Rattle.codec.proofs.EveryLaws.{sum_none, sum_more}
 use Rattle.reset.specs.Reach.{limit}
 use Rattle.reset.specs.Config.{between}
 use Rattle.rules.proofs.TableLaws.{turned_at}
-use Rattle.rules.proofs.around.Goals as goal
+use Rattle.rules.proofs.Links.around.Goals as goal
 
 pub loop-j-init : goal.loop-j-init
 loop-j-init c = (omega arith, sym (sum_none _), omega arith)
@@ -16,8 +15,8 @@ pub loop-j-preserved : goal.loop-j-preserved
 unfolding limit
 loop-j-preserved c =
     let l = c.loop-j in
-    let e : get_or (get_or c.args.back c.args.i []) l.j 0 ≡ limit c.args.limits l.j c.args.i = rw c.requires.1 (turned_at c.args.limits c.args.i l.j c.requires.0 (omega arith)) in
-    (omega arith, omega (arith, sum_more l.j (between c.args.limits c.args.i)), omega arith)
+    let e : get_or (get_or c.args.self.back c.args.i []) l.j 0 ≡ limit c.args.self.limits l.j c.args.i = rw c.args.self.turned (turned_at c.args.self.limits c.args.i l.j c.requires (omega arith)) in
+    (omega arith, omega (arith, sum_more l.j (between c.args.self.limits c.args.i)), omega arith)
 
 pub returns : goal.returns
 returns c = let e : c.loop-j.j ≡ 8 = omega arith in (rw e at c.loop-j.invariant.1, omega arith)

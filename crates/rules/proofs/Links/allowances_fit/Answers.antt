@@ -1,4 +1,4 @@
-use Prim.Native.Nat.{ℕ, ◌+◌, ◌-◌}
+use Prim.Native.Nat.{ℕ, ◌+◌}
 use mathlib.Core.Path.{◌≡◌, refl, sym, ◌∙◌}
 use mathlib.Core.Bool.{◌&&◌, ◌||◌}
 use lib.Dec.{eqb, leb, ltb}
@@ -8,23 +8,23 @@ use Rattle.codec.specs.Every.{every}
 use Rattle.codec.proofs.EveryLaws.{every_none, every_more, every_fails}
 use Rattle.codec.proofs.FlagLaws.{every_both}
 use Rattle.reset.specs.Config.{allowance_below, within_at, within_ceiling}
-use Rattle.rules.proofs.allowances_fit.Goals as goal
-use Rattle.rules.proofs.allowances_fit.Goals.{After-around, At-loop-i}
+use Rattle.rules.proofs.Links.allowances_fit.Goals as goal
+use Rattle.rules.proofs.Links.allowances_fit.Goals.{After-around, At-loop-i}
 
 -- both tests, of all stations
 both-tests : (c : goal.At-loop-i)
     → let a = c.args in
-    every 8 (λ (k : ℕ). allowance_below a.n a.allowances k && within_at a.t a.allowances a.limits k) ≡ (every 8 (allowance_below a.n a.allowances) && within_ceiling a.t a.allowances a.limits)
+    every 8 (λ (k : ℕ). allowance_below a.h.n a.h.allowances k && within_at a.h.t a.h.allowances a.self.limits k) ≡ (every 8 (allowance_below a.h.n a.h.allowances) && within_ceiling a.h.t a.h.allowances a.self.limits)
 unfolding within_ceiling
-both-tests c = let a = c.args in every_both _ (allowance_below a.n a.allowances) (within_at a.t a.allowances a.limits) (λ k. refl) 8
+both-tests c = let a = c.args in every_both _ (allowance_below a.h.n a.h.allowances) (within_at a.h.t a.h.allowances a.self.limits) (λ k. refl) 8
 
 -- both of one station
 tested : (c : goal.After-around)
     → let a = c.args in
     let i = c.loop-i.i in
-    (allowance_below a.n a.allowances i && within_at a.t a.allowances a.limits i)
-    ≡ ((ltb i a.n || eqb (get_or a.allowances i 0) 0) && leb (c.wide16.result + c.around.result) c.wide16-ceiling.result)
-tested c = rw (c.around.ensures.0, c.wide16.ensures.0, c.wide16-ceiling.ensures.0)
+    (allowance_below a.h.n a.h.allowances i && within_at a.h.t a.h.allowances a.self.limits i)
+    ≡ ((ltb i c.from-top.result || eqb (get_or a.h.allowances i 0) 0) && leb (c.from.result + c.around.result) c.from-ceiling.result)
+tested c = rw (c.around.ensures.0, c.from.ensures, c.from-ceiling.ensures, c.from-top.ensures)
 
 pub loop-i-init : goal.loop-i-init
 loop-i-init c = (omega arith, every_none _)
