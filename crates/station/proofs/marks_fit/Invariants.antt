@@ -1,4 +1,4 @@
-use Prim.Native.Nat.{◌-◌, ◌≤◌}
+use Prim.Native.Nat.{◌≤◌}
 use mathlib.Core.Path.{◌≡◌}
 use Rattle.codec.specs.Every.{every}
 use Rattle.station.specs.Test.{marks_within_at}
@@ -6,6 +6,3 @@ use Rattle.station.proofs.marks_fit.Given as goal
 
 abbrev pub invariant-loop-j : goal.invariant-loop-j
 invariant-loop-j l = (l.j ≤ 8) × (l.ok ≡ every l.j (marks_within_at l.head l.o l.part))
-
-abbrev pub decreases-loop-j : goal.decreases-loop-j
-decreases-loop-j l = 8 - l.j

@@ -1,6 +1,7 @@
-use Prim.Native.Nat.{ℕ, ◌-◌}
+use Prim.Native.Nat.{ℕ}
 use mathlib.Core.Path.{◌≡◌, refl, ◌∙◌, sym, ap}
-use mathlib.Core.Bool.{false}
+use mathlib.Core.Bool.{Bool, true, false}
+use mir.Val.{bool_byte}
 use native.Mathlib.Omega.{arith}
 use mathlib.Core.List.{List}
 use lib.ListN.{get_or, length-set}
@@ -9,6 +10,10 @@ use Rattle.codec.proofs.SpliceLaws.{splice_none}
 use Rattle.codec.proofs.Stride.{made_turn, upto_none}
 use Rattle.station.specs.Image.{mark_byte, marks_of}
 use Rattle.station.proofs.put_marks.Goals as goal
+
+byte_is : (b : Bool) → bool_byte b ≡ mark_byte b
+byte_is true = refl
+byte_is false = refl
 
 pub loop-j-init : goal.loop-j-init
 loop-j-init c = (omega arith, refl, sym (ap (λ (v : List ℕ). splice c.args.part.now c.args.at v) (upto_none _) ∙ splice_none c.args.part.now c.args.at))
@@ -19,7 +24,7 @@ loop-j-preserved c =
     let a = c.args in (
       omega arith,
       simp length-set (omega arith),
-      rw c.mark_byte.ensures (made_turn a.part.now l.part (λ (k : ℕ). mark_byte (get_or a.marks k false)) a.at l.j (omega arith) l.invariant.2),
+      rw (c.from.ensures ∙ byte_is _) (made_turn a.part.now l.part (λ (k : ℕ). mark_byte (get_or a.marks k false)) a.at l.j (omega arith) l.invariant.2),
     )
 
 pub returns : goal.returns

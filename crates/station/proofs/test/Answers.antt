@@ -8,13 +8,14 @@ returns c =
     rw (
       c.marks_fit.ensures,
       c.sent_fit.ensures,
-      c.get16-3.ensures,
-      c.get16-2.ensures,
-      c.phase_bound.ensures,
-      c.get32.ensures,
-      c.mode_bound.ensures,
+      c.get-4.ensures,
+      c.get-3.ensures,
+      c.bound-2.ensures,
+      c.get-2.ensures,
+      c.bound.ensures,
+      c.from-2.ensures,
       c.counts_fit.ensures,
-      c.get16.ensures,
-      c.wide.ensures,
+      c.get.ensures,
+      c.from.ensures,
     )
     (sym (test_is c.args.head.now c.args.i (omega arith) c.args.part.now))
