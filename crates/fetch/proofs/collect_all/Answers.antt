@@ -1,4 +1,3 @@
-use Prim.Native.Nat.{◌+◌, ◌-◌, ◌/◌, ◌<◌}
 use mathlib.Core.Path.{◌≡◌, refl, ap, ◌∙◌}
 use native.Mathlib.Omega.{arith}
 use lib.ListN.{length}
@@ -10,48 +9,46 @@ use Rattle.fetch.proofs.Laws.{copied-long, fetched_none, fetched_more, fetched-s
 use Rattle.fetch.proofs.collect_all.Goals as goal
 
 pub overflow_sub-blocks : goal.overflow_sub-blocks
-overflow_sub-blocks c = omega (arith, test-long _ c.requires.0)
+overflow_sub-blocks c = omega (arith, test-long _ c.args.archive.tested)
 
-pub loop-next-init : goal.loop-next-init
+pub loop-b-init : goal.loop-b-init
+loop-b-init c = record { below = omega arith; few = omega arith; long = refl; is = fetched_none _ _ _ }
+
+pub next_block-requires : goal.next_block-requires
 unfolding blocks
-loop-next-init c =
-    let w = c.next_block-next.ensures in
-    record { below = w.1; few = omega arith; long = refl; is = fetched-skips c.args.a.now c.args.numbers.now c.args.copies.now 0 _ (omega arith) (λ k h m. w.2 k h m) ∙ fetched_none _ _ _; next = w.3 }
+next_block-requires c = c.loop-b.invariant.below
 
 pub block_at-requires : goal.block_at-requires
 unfolding blocks
-block_at-requires c = omega arith
+block_at-requires c = c.in-Some.ensures.1
 
 pub collect-count-requires : goal.collect-count-requires
 unfolding blocks
 collect-count-requires c =
-    (rw c.block_at.ensures (block-length c.args.a.now c.loop-next.next (omega arith)), omega (arith, c.loop-next.invariant.long), omega (arith, c.loop-next.invariant.few))
+    let i = c.loop-b.invariant in
+    (rw c.block_at.ensures (block-length c.args.archive.bytes.now c.in-Some.b c.in-Some.ensures.1), omega (arith, i.long), omega (arith, i.few, i.below))
 
-pub loop-next-preserved : goal.loop-next-preserved
+pub loop-b-preserved : goal.loop-b-preserved
 unfolding blocks
-loop-next-preserved c =
-    let a = c.args.a.now in
+loop-b-preserved c =
+    let a = c.args.archive.bytes.now in
     let l = c.args.numbers.now in
     let d = c.args.copies.now in
-    let b = c.loop-next.next in
-    let i = c.loop-next.invariant in
-    let w = c.next_block-next-in-loop-next.ensures in
-    let q : b < blocks a = omega arith in
-    let m : c.collect-count.new.copies ≡ copied (block_of a b) l c.loop-next.copies (length l) = rw c.block_at.ensures at c.collect-count.ensures.1 in
+    let b = c.in-Some.b in
+    let i = c.loop-b.invariant in
+    let w = c.in-Some.ensures in
+    let m : c.collect-count.new.copies ≡ copied (block_of a b) l c.loop-b.copies (length l) = rw c.block_at.ensures at c.collect-count.ensures.1 in
     record {
-      below = w.1;
+      below = omega (arith, w.1);
       few = omega (arith, i.few, c.collect-count.ensures.0, w.0);
-      long = ap length m ∙ (copied-long (block_of a b) l c.loop-next.copies (length l) (block-length a b q) (omega (arith, i.long)) ∙ i.long);
-      is = fetched-skips a l d (b + 1) c.next_block-next-in-loop-next.result w.0 (λ j h g. w.2 j h g) ∙ (fetched_more a l d b (i.next q) ∙ rw (i.is, m, c.collect-count.ensures.0));
-      next = w.3;
+      long = ap length m ∙ (copied-long (block_of a b) l c.loop-b.copies (length l) (block-length a b w.1) (omega (arith, i.long)) ∙ i.long);
+      is = fetched_more a l d b w.2 ∙ rw (fetched-skips a l d c.loop-b.from b w.0 (λ j h g. w.3 j h g), i.is, m, c.collect-count.ensures.0);
     }
-
-pub shape_of-copies : goal.shape_of-copies
-shape_of-copies c = c.loop-next.invariant.long
 
 pub returns : goal.returns
 unfolding blocks
 returns c =
-    let w = c.loop-next.invariant in
-    let e : c.loop-next.next ≡ length c.args.a.now / 512 - 1 = omega (arith, w.below) in
-    (rw (← e, w.is), rw (← e, w.is))
+    let a = c.args.archive.bytes.now in
+    let i = c.loop-b.invariant in
+    let e = fetched-skips a c.args.numbers.now c.args.copies.now c.loop-b.from _ i.below (λ j h g. c.in_default.ensures j h g) ∙ i.is in
+    rw e (refl, refl)

@@ -3,4 +3,4 @@ use Rattle.fetch.proofs.holds.Goals as goal
 
 pub returns : goal.returns
 unfolding holds-record
-returns c = rw (c.get32-number.ensures, c.count_of-count.ensures)
+returns c = rw (c.from-number.ensures, c.get.ensures, c.count_of-count.ensures)

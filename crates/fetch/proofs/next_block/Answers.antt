@@ -1,4 +1,4 @@
-use Prim.Native.Nat.{ℕ, ◌+◌, ◌/◌, ◌≤◌, ◌<◌}
+use Prim.Native.Nat.{ℕ, min, ◌+◌, ◌/◌, ◌≤◌, ◌<◌}
 use mathlib.Core.Path.{◌≡◌, sym, ◌∙◌}
 use mathlib.Core.Logic.{⊎_elim}
 use mathlib.Core.List.{List}
@@ -9,6 +9,7 @@ use lib.ListN.{get_or}
 use Rattle.fetch.proofs.Laws.{wanted_of, not-wanted}
 use Rattle.fetch.proofs.next_block.Invariants.{Nearest}
 use Rattle.fetch.proofs.next_block.Goals as goal
+use Rattle.fetch.proofs.next_block.Goals.{then-from-b, else-from-b}
 
 nearest-more : {l : List ℕ} {from until n best : ℕ} → Nearest l from until n best → (r : ℕ) → from ≤ r → r ≤ best → (from ≤ get_or l n 0 / 15 → r ≤ get_or l n 0 / 15) → (r < best → r ≡ get_or l n 0 / 15)
     → Nearest l from until (n + 1) r
@@ -26,21 +27,33 @@ nearest-more {l} {from} {until} {n} {best} w r f h s t = record {
         let q = w.some (omega arith) in
         (q.0, (let m = q.1 in omega arith), q.2 ∙ sym e)
 
-pub loop-i-init : goal.loop-i-init
-loop-i-init c = (omega arith, record { low = omega arith; high = omega arith; none = λ i h. absurd (omega arith); some = λ h. absurd (omega arith) })
+pub loop-k-init : goal.loop-k-init
+loop-k-init c = record { low = omega arith; high = omega arith; none = λ i h. absurd (omega arith); some = λ h. absurd (omega arith) }
 
-pub nearer-best-requires : goal.nearer-best-requires
-nearer-best-requires c = c.loop-i.invariant.1.low
+pub loop-k-preserved : goal.loop-k-preserved
+loop-k-preserved c =
+    let l = c.loop-k in
+    let n = get_or c.args.numbers.now l.k-index 0 in
+    elim c.if-from-b.branch [
+      | then-from-b w ↦
+          let m : c.if-from-b.best ≡ min l.best (n / 15) = w.best-is ∙ w.min-best.ensures in
+          nearest-more l.invariant c.if-from-b.best (omega (arith, l.invariant.low)) (omega arith) (λ h. omega arith) (λ h. omega arith)
+      | else-from-b w ↦
+          nearest-more l.invariant c.if-from-b.best (omega (arith, l.invariant.low)) (omega arith) (λ h. absurd (omega arith)) (λ h. absurd (omega arith))
+    ]
 
-pub loop-i-preserved : goal.loop-i-preserved
-loop-i-preserved c = (omega arith, nearest-more c.loop-i.invariant.1 _ c.nearer-best.ensures.0 c.nearer-best.ensures.1 c.nearer-best.ensures.2 c.nearer-best.ensures.3)
-
-pub returns : goal.returns
-returns c =
+pub returns-then-best-until : goal.returns-then-best-until
+returns-then-best-until c =
     let l = c.args.numbers.now in
-    let w = c.loop-i.invariant.1 in (
+    let w = c.loop-k.invariant in
+    let q = w.some c.if-best-until.true in (
       w.low,
-      w.high,
+      omega arith,
+      wanted_of l q.0 c.loop-k.best (let m = q.1 in omega arith) q.2,
       λ b h k. not-wanted l b (λ i m e. omega (arith, w.none i (omega arith) (omega arith))),
-      λ h. let q = w.some h in wanted_of l q.0 c.loop-i.best (let m = q.1 in omega arith) q.2,
     )
+
+pub returns-else-best-until : goal.returns-else-best-until
+returns-else-best-until c b h k =
+    let w = c.loop-k.invariant in
+    not-wanted c.args.numbers.now b (λ i m e. omega (arith, w.none i (omega arith) (omega arith)))

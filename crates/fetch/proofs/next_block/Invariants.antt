@@ -1,7 +1,7 @@
-use Prim.Native.Nat.{ℕ, ◌-◌, ◌/◌, ◌≤◌, ◌<◌}
+use Prim.Native.Nat.{ℕ, ◌/◌, ◌≤◌, ◌<◌}
 use mathlib.Core.Path.{◌≡◌}
 use mathlib.Core.List.{List}
-use lib.ListN.{length, get_or}
+use lib.ListN.{get_or}
 use Rattle.fetch.proofs.next_block.Given as goal
 
 -- of the first n numbers none is of a block from `from` on before `best`, and one is of `best` where that is not `until`
@@ -11,8 +11,5 @@ pub record Nearest (l : List ℕ) (from until n best : ℕ) : Type 0 where
   pub none : (i : ℕ) → i < n → from ≤ get_or l i 0 / 15 → best ≤ get_or l i 0 / 15
   pub some : best < until → (i : ℕ) × (i < n) × (get_or l i 0 / 15 ≡ best)
 
-abbrev pub invariant-loop-i : goal.invariant-loop-i
-invariant-loop-i l = (l.i ≤ length l.numbers) × Nearest l.numbers l.from l.until l.i l.best
-
-abbrev pub decreases-loop-i : goal.decreases-loop-i
-decreases-loop-i l = length l.numbers - l.i
+abbrev pub invariant-loop-k : goal.invariant-loop-k
+invariant-loop-k l = Nearest l.numbers l.from l.until l.k-index l.best
