@@ -1,16 +1,14 @@
-use native.Mathlib.Omega.{arith}
-use borrow.Author.Tests.{eq-eqb, ne_eqb}
 use Rattle.turnover_output.specs.Answer.{mode_word}
 use Rattle.turnover_output.proofs.answer.mode_word.Goals as goal
 
-pub returns-then-mode-eq0 : goal.returns-then-mode-eq0
+pub returns-in-Normal-clause-is : goal.returns-in-Normal-clause-is
 unfolding mode_word
-returns-then-mode-eq0 c = let w = c.word.ensures in record { text_at = rw (eq-eqb _ _ c.if-mode-eq0.true) w; upper_bound = omega (arith, w.next) }
+returns-in-Normal-clause-is c = rw c.in-Normal.is
 
-pub returns-then-mode-eq1 : goal.returns-then-mode-eq1
+pub returns-in-Mute-clause-is : goal.returns-in-Mute-clause-is
 unfolding mode_word
-returns-then-mode-eq1 c = let w = c.word-then-mode-eq1.ensures in record { text_at = rw (ne_eqb _ _ c.if-mode-eq0.false, eq-eqb _ _ c.if-mode-eq1.true) w; upper_bound = omega (arith, w.next) }
+returns-in-Mute-clause-is c = rw c.in-Mute.is
 
-pub returns : goal.returns
+pub returns-in-StandBy-clause-is : goal.returns-in-StandBy-clause-is
 unfolding mode_word
-returns c = let w = c.word-2.ensures in record { text_at = rw (ne_eqb _ _ c.if-mode-eq0.false, ne_eqb _ _ c.if-mode-eq1.false) w; upper_bound = omega (arith, w.next) }
+returns-in-StandBy-clause-is c = rw c.in-StandBy.is
