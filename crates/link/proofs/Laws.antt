@@ -6,7 +6,7 @@ use mathlib.Core.Bool.{Bool, true, false, cond, ◌&&◌, ◌||◌, true≢false
 use native.Mathlib.Omega.{arith}
 use native.Mathlib.Decide.{dec_lt}
 use lib.Dec.{eqb, leb}
-use lib.ListN.{length, get_or, drop, length-take, length-drop, get_or-eq_default}
+use lib.ListN.{length, get_or, drop, replicate, length-take, length-drop, get_or-eq_default}
 use lib.Seq.{drop-cons}
 use borrow.Author.Tests.{eqb-true, leb-true, le-leb}
 use Rattle.codec.specs.Num.{AreBytes, bytes_of, num_at, nums_of, nums_at}
@@ -25,7 +25,9 @@ use Rattle.reset.proofs.ConfigLaws.{shape, linked-small}
 use Rattle.reset.specs.Clock.{vector, count_fits, timestamp_fits}
 use Rattle.reset.specs.State.{Item, message, reset_req, reset_done}
 use Rattle.reset.specs.WellFormed.{item_fits, item_fits_at, link_fits}
-use Rattle.link.specs.Image.{Queue, item_of, image_item, parse_item, item_test, image_link, item_at, parse_link, items_test, link_test, sized, RangedItem, RangedLink}
+use Rattle.link.specs.declared.Control.{Control}
+use Rattle.link.specs.declared.Control.TheVariants.{ResetReq, ResetDone}
+use Rattle.link.specs.Image.{Queue, control_number, control_view, item_of, image_item, parse_item, item_test, image_link, item_at, parse_link, items_test, link_test, sized, RangedItem, RangedLink}
 
 -- ---- an item
 pub item-length : (x : Item vector) → length (image_item x) ≡ 21
@@ -98,25 +100,11 @@ item_parse_image (message v g) r =
 item_parse_image reset_req r = parse_req (image_item reset_req) (unfold image_item in refl)
 item_parse_image reset_done r = parse_done (image_item reset_done) (unfold image_item in refl)
 
--- what a writer must write, by the kind
-pub control-image : (k g : ℕ) (v : List ℕ) → (eqb k 2 || eqb k 3) ≡ true → image_item (item_of k g v) ≡ (k ∷ []) ++ bytes_of 4 0 ++ nums_of 2 8 []
-unfolding image_item item_of blank
-control-image k g v h = go (eqb k 2) refl (eqb k 3) refl h
-  where
-    go : (p : Bool) → eqb k 2 ≡ p → (q : Bool) → eqb k 3 ≡ q → (p || q) ≡ true
-        → image_item (cond p reset_req (cond q reset_done (message v g))) ≡ (k ∷ []) ++ bytes_of 4 0 ++ nums_of 2 8 []
-    go true e q f h = rw (eqb-true k 2 e)
-    go false e true f h = rw (eqb-true k 3 f)
-    go false e false f h = absurd (true≢false (sym h))
-
-pub message-image : (k g : ℕ) (v : List ℕ) → (eqb k 2 || eqb k 3) ≡ false → image_item (item_of k g v) ≡ (1 ∷ []) ++ bytes_of 4 g ++ nums_of 2 8 v
-unfolding image_item item_of
-message-image k g v h = go (eqb k 2) (eqb k 3) h
-  where
-    go : (p q : Bool) → (p || q) ≡ false → image_item (cond p reset_req (cond q reset_done (message v g))) ≡ (1 ∷ []) ++ bytes_of 4 g ++ nums_of 2 8 v
-    go true q h = absurd (true≢false h)
-    go false true h = absurd (true≢false h)
-    go false false h = refl
+-- what a writer must write of a control item
+pub control-image : (x : Control) → image_item (control_view x) ≡ (control_number x ∷ []) ++ bytes_of 4 0 ++ nums_of 2 8 (replicate 8 0)
+unfolding image_item blank
+control-image ResetReq = refl
+control-image ResetDone = refl
 
 -- what is read of bytes fits them
 pub item_ranged : (l : List ℕ) → AreBytes l → RangedItem (parse_item l)

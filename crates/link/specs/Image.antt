@@ -6,7 +6,10 @@ use Rattle.queue.specs.Queue.{image_queue, place_at, parse_queue, items_pass, be
 use Rattle.reset.specs.Config.{Config, places}
 use Rattle.reset.specs.Clock.{vector, timestamp_fits}
 use Rattle.reset.specs.State.{Item, message, reset_req, reset_done}
-use Rattle.link.specs.declared.Item as declared
+use Rattle.link.specs.declared.Control.{Control}
+use Rattle.link.specs.declared.Control.TheVariants.{ResetReq, ResetDone}
+use Rattle.link.specs.declared.Item.{Item as CodeItem}
+use Rattle.link.specs.declared.Item.TheVariants.{Message, Control as AControl}
 
 -- ---- sizes in bytes: of an item, of all places of a link, and of a link, whose first byte is the count of its items
 abbrev pub item_size : ℕ
@@ -26,9 +29,19 @@ link_size = 715
 unfoldable pub item_of : ℕ → ℕ → List ℕ → Item vector
 item_of k g v = cond (eqb k 2) reset_req (cond (eqb k 3) reset_done (message v g))
 
--- what the struct stands for
-abbrev pub item_view : declared.Item → Item vector
-item_view x = item_of x.kind x.register x.counts
+-- what the code's enums stand for
+abbrev pub control_view : Control → Item vector
+control_view ResetReq = reset_req
+control_view ResetDone = reset_done
+
+abbrev pub item_view : CodeItem → Item vector
+item_view (Message register counts) = message counts register
+item_view (AControl control) = control_view control
+
+-- the kind of a control item in bytes
+abbrev pub control_number : Control → ℕ
+control_number ResetReq = 2
+control_number ResetDone = 3
 
 -- its 21 bytes: kind, register number, eight counts; of a control item all but the kind is 0
 unfoldable pub image_item : Item vector → List ℕ

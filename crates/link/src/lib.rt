@@ -7,15 +7,17 @@ ghost use Rattle.codec.specs.Every.{all_zero};
 ghost use Rattle.reset.specs.Config.{places_of};
 ghost use Rattle.reset.specs.Clock.{vector};
 ghost use Rattle.reset.specs.State as state;
-ghost use Rattle.link.specs.Image.{item_size, most_items, link_size, Queue, item_view, image_item, parse_item, image_link, item_at, items_test, sized};
+ghost use Rattle.link.specs.Image.{item_size, most_items, link_size, Queue, control_number, item_view, image_item, parse_item, image_link, item_at, items_test, sized};
+
+use codec::Number;
 
 // A link's part, and an item's place in it, in bytes.
 pub const SIZE: usize = 715;
 
 pub const ITEM_SIZE: usize = 21;
 
-// Kinds of items.
-pub const MESSAGE: u8 = 1;
+// The first byte of an item in a link's bytes, by its kind.
+const MESSAGE: u8 = 1;
 
 pub const RESET_REQ: u8 = 2;
 
@@ -25,27 +27,45 @@ pub const RESET_DONE: u8 = 3;
 pub fn places(limit: u8) -> u32
     ensures { (result ≡ places_of limit) × (result < 258) }
 {
-    (limit as u32) + 2
+    u32::from(limit) + 2
 }
 
-// Kind 1 is a message, 2 reset_req, 3 reset_done; the register number and the counts are a message's.
-#[derive(Clone, Copy)]
-pub struct Item {
-    pub kind: u8,
-    pub register: u32,
-    pub counts: [u16; 8],
+// What the reset rules put on links.
+#[derive(Clone, Copy, Debug, PartialEq, Eq)]
+pub enum Control {
+    ResetReq,
+    ResetDone,
 }
 
-// The item in a place of 21 bytes.
+impl From<Control> for u8 {
+    ghost from_gives = { λ control kind. kind ≡ control_number control };
+
+    fn from(control: Control) -> u8 {
+        match control {
+            Control::ResetReq => RESET_REQ,
+            Control::ResetDone => RESET_DONE,
+        }
+    }
+}
+
+#[derive(Clone, Copy, Debug, PartialEq, Eq)]
+pub enum Item {
+    Message { register: u32, counts: [u16; 8] },
+    Control(Control),
+}
+
+// The item in a place of 21 bytes. A slice, and no array: all places are of the lent area.
 fn load(part: &[u8]) -> Item
     requires { length part.now ≡ item_size }
     ensures { item_view result ≡ parse_item part.now }
 {
-    let counts = codec::get_row(part, 5);
-    Item {
-        kind: part[0],
-        register: codec::get32(part, 1),
-        counts,
+    match part[0] {
+        RESET_REQ => Item::Control(Control::ResetReq),
+        RESET_DONE => Item::Control(Control::ResetDone),
+        _ => Item::Message {
+            register: u32::get(part, 1),
+            counts: codec::get_row(part, 5),
+        },
     }
 }
 
@@ -54,7 +74,7 @@ fn store_fields(part: &mut [u8], kind: u8, register: u32, counts: [u16; 8])
     requires { length part.old ≡ item_size }
     ensures { part.new ≡ (kind ∷ []) ++ bytes_of 4 register ++ nums_of 2 8 counts }
 {
-    codec::put32(part, 1, register);
+    register.put(part, 1);
     codec::put_row(part, 5, counts);
     part[0] = kind;
 }
@@ -64,13 +84,10 @@ fn store(part: &mut [u8], x: Item)
     requires { length part.old ≡ item_size }
     ensures { part.new ≡ image_item (item_view x) }
 {
-    let kind = x.kind;
-    if (kind == RESET_REQ) | (kind == RESET_DONE) {
-        store_fields(part, kind, 0, [0u16; 8]);
-        return;
+    match x {
+        Item::Message { register, counts } => store_fields(part, MESSAGE, register, counts),
+        Item::Control(control) => store_fields(part, u8::from(control), 0, [0u16; 8]),
     }
-    let counts = x.counts;
-    store_fields(part, MESSAGE, x.register, counts);
 }
 
 // A place of 21 bytes holds a control item: all but its kind is 0.
@@ -89,24 +106,21 @@ pub fn items_fit(places: u32, n: u8, t: u16, part: &[u8]) -> bool
     ensures { result ≡ items_test places (sized n t) part.now }
 {
     let b = part[0];
-    if places < b as u32 {
+    if places < u32::from(b) {
         return false;
     }
-    let count = b as usize;
     let mut most = [0u16; 8];
-    let mut k = 0;
-    while k < count {
+    for k in 0..usize::from(b) {
         let item = queue::place(part, ITEM_SIZE, k);
         if item[0] == MESSAGE {
+            // A call's result goes into no array that is lent: it has a name first.
             let more = clock::merge(most, codec::get_row(item, 5));
             most = more;
-            k += 1;
             continue;
         }
         if !is_control(item) {
             return false;
         }
-        k += 1;
     }
     clock::counts_fit(most, n, t)
 }
@@ -124,7 +138,7 @@ pub fn push(part: &mut [u8], x: Item)
     requires { (length part.old ≡ link_size) × (get_or part.old 0 0 < most_items) }
     ensures { (q : Queue) → part.old ≡ image_link q → part.new ≡ image_link (q ++ (item_view x ∷ [])) }
 {
-    let mut item = [0u8; 21];
+    let mut item = [0u8; ITEM_SIZE];
     store(&mut item, x);
     queue::push(part, ITEM_SIZE, &item);
 }

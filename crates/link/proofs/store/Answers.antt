@@ -1,13 +1,12 @@
 use mathlib.Core.Path.{◌∙◌, sym}
-use Rattle.link.proofs.Laws.{control-image, message-image}
+use Rattle.link.specs.Image.{image_item}
+use Rattle.link.proofs.Laws.{control-image}
 use Rattle.link.proofs.store.Goals as goal
 
-pub returns-then-kind : goal.returns-then-kind
-returns-then-kind c =
-    let x = c.args.x in
-    c.store_fields.ensures ∙ sym (control-image x.kind x.register x.counts c.if-kind.true)
+pub returns-in-Message : goal.returns-in-Message
+unfolding image_item
+returns-in-Message c = rw c.in-Message.is c.store_fields.ensures
 
-pub returns : goal.returns
-returns c =
-    let x = c.args.x in
-    c.store_fields-2.ensures ∙ sym (message-image x.kind x.register x.counts c.if-kind.false)
+pub returns-in-Control : goal.returns-in-Control
+returns-in-Control c =
+    rw c.in-Control.is (rw c.from.ensures at c.store_fields-in-Control.ensures ∙ sym (control-image c.in-Control.control))

@@ -26,5 +26,5 @@ returns c =
     let g : List ℕ = bytes_of 4 c.args.register in
     let v : List ℕ = nums_of 2 8 c.args.counts in
     let m : length v ≡ 16 = nums_length 2 8 c.args.counts in
-    let d : c.put_row.new.d ≡ splice l 1 (g ++ v) = c.put_row.ensures ∙ rw c.put32.ensures (splice_more l 1 g (omega arith) 5 v refl) in
+    let d : c.put_row.new.d ≡ splice l 1 (g ++ v) = c.put_row.ensures ∙ rw c.put.ensures (splice_more l 1 g (omega arith) 5 v refl) in
     front-set l (g ++ v) c.put_row.new.d c.args.kind d (omega arith)
