@@ -1,6 +1,6 @@
 -- The rules on a record and two slots. Assumes nothing.
 use Prim.Native.Nat.{ℕ}
-use mathlib.Core.Path.{◌≡◌, refl, ap, subst, sym, ◌∙◌}
+use mathlib.Core.Path.{◌≡◌, refl, ap, ◌∙◌}
 use mathlib.Core.List.{List, []}
 use mathlib.Core.Bool.{Bool, true, false, cond}
 use lib.ListN.{get_or}
@@ -11,7 +11,7 @@ use Rattle.reset.specs.Steps.{every_neighbour, some_neighbour, Rule, rule_a, rul
 use Rattle.reset.proofs.Views.{none_at}
 use Rattle.reset.proofs.TurnLaws.{some_none}
 use Rattle.reset_rules.specs.Turn.{Turning, turned_by, turned_once, turned_all, turned, started}
-use Rattle.reset_rules.specs.Slots.{every_seen, some_seen, control_fits, Slots, slot_items, slots_view, turned_view, fresh, asked, slot_by, slot_once, slot_all}
+use Rattle.reset_rules.specs.Slots.{every_seen, some_seen, Slots, slot_items, slots_view, turned_view, fresh, asked, slot_by, slot_once, slot_all}
 use Rattle.reset_rules.specs.declared.Turned.{Turned}
 use Rattle.reset_rules.proofs.SeenLaws.{every_seen_lem, some_seen_lem}
 
@@ -122,29 +122,8 @@ module _ (c : Config) (i : ℕ) where
     pub slots_started : slot_items (slot_all c i (asked x)) ≡ started c i x
     slots_started = from_begin _ _ refl refl
 
--- ---- the slots hold numbers of control items, or 0
-abbrev SlotsFit : Slots → Type 0
-SlotsFit t = (control_fits t.first ≡ true) × (control_fits t.second ≡ true)
-
-by_fits : (t : Slots) (r : Rule) → SlotsFit t → SlotsFit (slot_by t r)
-by_fits t rule_a h = (h.0, refl)
-by_fits t rule_b h = h
-by_fits t rule_c h = (refl, h.1)
-by_fits t no_rule h = h
-
-module _ (c : Config) (i : ℕ) where
-  once_fits : (t : Slots) → SlotsFit t → SlotsFit (slot_once c i t)
-  unfolding slot_once
-  once_fits t h = by_fits t (rule_of c i t.station) h
-
-  all_fits : (t : Slots) → SlotsFit t → SlotsFit (slot_all c i t)
-  all_fits t h = once_fits _ (once_fits _ (once_fits t h))
-
 -- ---- what the rules promise of a station in a table of limits, by what they do for its row
-pub promised : (r : Turned) (m : List (List ℕ)) (i : ℕ) (t : Slots) (g : Config → Turning vector) → SlotsFit t → ((c : Config) → slot_items (slot_all c i t) ≡ g c)
+pub promised : (r : Turned) (m : List (List ℕ)) (i : ℕ) (t : Slots) (g : Config → Turning vector) → ((c : Config) → slot_items (slot_all c i t) ≡ g c)
     → ((c : Config) (k : ℕ) → get_or c.limits k [] ≡ get_or m i [] → slots_view r ≡ slot_all c k t)
-    → ((c : Config) → c.limits ≡ m → turned_view r ≡ g c) × (control_fits r.first ≡ true) × (control_fits r.second ≡ true)
-promised r m i t g h is all =
-    let w : Config = record { n = 0; t = 0; allowances = []; limits = m } in
-    let f : SlotsFit (slots_view r) = subst SlotsFit (sym (all w i refl)) (all_fits w i t h) in
-    (λ (c : Config) (e : c.limits ≡ m). ap slot_items (all c i (ap (λ (l : List (List ℕ)). get_or l i []) e)) ∙ is c, f.0, f.1)
+    → (c : Config) → c.limits ≡ m → turned_view r ≡ g c
+promised r m i t g is all c e = ap slot_items (all c i (ap (λ (l : List (List ℕ)). get_or l i []) e)) ∙ is c

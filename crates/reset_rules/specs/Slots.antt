@@ -1,11 +1,14 @@
--- What the code keeps while the rules run: the control items in two slots, 0 for none. Assumes nothing.
-use Rattle.std.specs.Prelude.{ℕ, List, [], ◌∷◌, ◌++◌, Bool, false, cond, ◌&&◌, ◌||◌, not, eqb, get_or}
+-- What the code keeps while the rules run: the control items in two slots. Assumes nothing.
+use Rattle.std.specs.Prelude.{ℕ, List, [], ◌∷◌, ◌++◌, Bool, false, ◌&&◌, ◌||◌, not, eqb, get_or, Option, Some, None}
 use Rattle.codec.specs.Every.{every, some}
 use Rattle.reset.specs.Config.{Config}
 use Rattle.reset.specs.Clock.{vector}
-use Rattle.reset.specs.State.{Item, reset_req, reset_done, Station}
+use Rattle.reset.specs.State.{Item, Station}
 use Rattle.reset.specs.Steps.{Rule, rule_a, rule_b, rule_c, no_rule, rule_of, begun, renewed, woken}
 use Rattle.station.specs.View.{station_view}
+use Rattle.link.specs.declared.Control.{Control}
+use Rattle.link.specs.declared.Control.TheVariants.{ResetReq, ResetDone}
+use Rattle.link.specs.Image.{control_view}
 use Rattle.reset_rules.specs.Turn.{Turning}
 use Rattle.reset_rules.specs.declared.Turned.{Turned}
 
@@ -17,28 +20,16 @@ every_seen row marks = every 8 (λ (j : ℕ). eqb (get_or row j 0) 0 || get_or m
 unfoldable pub some_seen : List ℕ → List Bool → Bool
 some_seen row marks = some 8 (λ (j : ℕ). not (eqb (get_or row j 0) 0) && get_or marks j false)
 
--- ---- control items by number
-abbrev pub no_item : ℕ
-no_item = 0
-
-abbrev pub req_number : ℕ
-req_number = 2
-
-abbrev pub done_number : ℕ
-done_number = 3
-
-abbrev pub control_of : ℕ → List (Item vector)
-control_of k = cond (eqb k req_number) (reset_req ∷ []) (cond (eqb k done_number) (reset_done ∷ []) [])
-
--- the number of a control item, or 0 for none
-abbrev pub control_fits : ℕ → Bool
-control_fits k = eqb k no_item || (eqb k req_number || eqb k done_number)
+-- ---- the control item of a slot, if it has one
+abbrev pub control_of : Option Control → List (Item vector)
+control_of None = []
+control_of (Some control) = control_view control ∷ []
 
 -- A record and the two slots.
 pub record Slots : Type 0 where
   pub station : Station vector
-  pub first : ℕ
-  pub second : ℕ
+  pub first : Option Control
+  pub second : Option Control
 
 -- the items of the slots, in order
 abbrev pub slot_items : Slots → Turning vector
@@ -53,16 +44,16 @@ turned_view t = slot_items (slots_view t)
 
 -- nothing is sent yet; a begin has sent reset_req
 abbrev pub fresh : Station vector → Slots
-fresh x = record { station = x; first = no_item; second = no_item }
+fresh x = record { station = x; first = None; second = None }
 
 abbrev pub asked : Station vector → Slots
-asked x = record { station = begun x; first = req_number; second = no_item }
+asked x = record { station = begun x; first = Some ResetReq; second = None }
 
 -- a rule applied: reset_req goes into the first slot, reset_done into the second
 abbrev pub slot_by : Slots → Rule → Slots
-slot_by t rule_a = record { station = renewed t.station; first = t.first; second = done_number }
+slot_by t rule_a = record { station = renewed t.station; first = t.first; second = Some ResetDone }
 slot_by t rule_b = record { station = woken t.station; first = t.first; second = t.second }
-slot_by t rule_c = record { station = begun t.station; first = req_number; second = t.second }
+slot_by t rule_c = record { station = begun t.station; first = Some ResetReq; second = t.second }
 slot_by t no_rule = t
 
 -- the first rule that applies to station i, once; three times

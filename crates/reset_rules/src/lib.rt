@@ -11,19 +11,17 @@ ghost use Rattle.reset.specs.Steps.{entered as Entered, sending as Sending, rece
 ghost use Rattle.station.specs.View.{station_view};
 ghost use Rattle.reset_rules.specs.Raise.{raised_by};
 ghost use Rattle.reset_rules.specs.Turn.{turned, started};
-ghost use Rattle.reset_rules.specs.Slots.{control_fits, every_seen, some_seen, slot_once, slot_all, slots_view, turned_view};
+ghost use Rattle.reset_rules.specs.Slots.{every_seen, some_seen, slot_once, slot_all, slots_view, turned_view};
 
+use link::Control;
 use station::{Mode, Station};
-
-// In place of a control item's number, where there is none.
-pub const NO_ITEM: u8 = 0;
 
 // A station after the reset rules, with the control items that go on every link out, in order.
 #[derive(Clone, Copy)]
 pub struct Turned {
     pub station: Station,
-    pub first: u8,
-    pub second: u8,
+    pub first: Option<Control>,
+    pub second: Option<Control>,
 }
 
 // A station that has taken a message, and the news that this brought.
@@ -56,12 +54,11 @@ pub fn entered(s: Station, i: usize) -> Station
     requires { (i < 8) × (get_or s.counts i 0 < 65535) × (s.own < 65535) }
     ensures { station_view result ≡ Entered i (station_view s) }
 {
-    let counts = s.counts;
-    let next = clock::advance(counts, i);
-    let mut x = s;
-    x.counts = next;
-    x.own = s.own + 1;
-    x
+    Station {
+        counts: clock::advance(s.counts, i),
+        own: s.own + 1,
+        ..s
+    }
 }
 
 // Station i sends a message to j.
@@ -69,14 +66,11 @@ pub fn sending(s: Station, i: usize, j: usize) -> Station
     requires { (i < 8) × (get_or s.counts i 0 < 65535) × (j < 8) × (get_or s.sent j 0 < 255) }
     ensures { station_view result ≡ Sending i j (station_view s) }
 {
-    let counts = s.counts;
-    let sent = s.sent;
-    let next = clock::advance(counts, i);
-    let more = one_more(sent, j);
-    let mut x = s;
-    x.counts = next;
-    x.sent = more;
-    x
+    Station {
+        counts: clock::advance(s.counts, i),
+        sent: one_more(s.sent, j),
+        ..s
+    }
 }
 
 // Station i's counts raised in place, by those of a message. Answers the news: how many of the other stations' counts grew.
@@ -105,11 +99,10 @@ pub fn with_req(s: Station, j: usize) -> Station
     requires { j < 8 }
     ensures { (station_view result ≡ with_req j (station_view s)) × (result.phase ≡ s.phase) }
 {
-    let reqs = s.reqs;
-    let seen = marked(reqs, j);
-    let mut x = s;
-    x.reqs = seen;
-    x
+    Station {
+        reqs: marked(s.reqs, j),
+        ..s
+    }
 }
 
 // reset_done from j is seen.
@@ -117,28 +110,20 @@ pub fn with_done(s: Station, j: usize) -> Station
     requires { j < 8 }
     ensures { (station_view result ≡ with_done j (station_view s)) × (result.phase ≡ s.phase) }
 {
-    let dones = s.dones;
-    let seen = marked(dones, j);
-    let mut x = s;
-    x.dones = seen;
-    x
+    Station {
+        dones: marked(s.dones, j),
+        ..s
+    }
 }
 
 // Begin: dones forgotten, mute.
 fn begin(s: Station) -> Station
     ensures { station_view result ≡ begun (station_view s) }
 {
-    let counts = s.counts;
-    let sent = s.sent;
-    let reqs = s.reqs;
     Station {
-        counts,
-        sent,
-        reqs,
         dones: [false; 8],
-        phase: s.phase,
-        own: s.own,
         mode: Mode::Mute,
+        ..s
     }
 }
 
@@ -147,16 +132,14 @@ fn renew(s: Station) -> Station
     requires { s.phase ≤ 1000002 }
     ensures { station_view result ≡ renewed (station_view s) }
 {
-    let kept = s.dones;
-    let phase = s.phase + 1;
     Station {
         counts: [0u16; 8],
         sent: [0u8; 8],
         reqs: [false; 8],
-        dones: kept,
-        phase,
+        phase: s.phase + 1,
         own: 0,
         mode: Mode::StandBy,
+        ..s
     }
 }
 
@@ -164,18 +147,9 @@ fn renew(s: Station) -> Station
 fn wake(s: Station) -> Station
     ensures { station_view result ≡ woken (station_view s) }
 {
-    let counts = s.counts;
-    let sent = s.sent;
-    let waiting = s.reqs;
-    let dones = s.dones;
     Station {
-        counts,
-        sent,
-        reqs: waiting,
-        dones,
-        phase: s.phase,
-        own: s.own,
         mode: Mode::Normal,
+        ..s
     }
 }
 
@@ -184,10 +158,8 @@ fn every_seen(row: [u8; 8], marks: [bool; 8]) -> bool
     ensures { result ≡ every_seen row marks }
 {
     let mut ok = true;
-    let mut j = 0;
-    while j < 8 {
-        ok = ok & ((row[j] == 0) | marks[j]);
-        j += 1;
+    for j in 0..8 {
+        ok &= (row[j] == 0) | marks[j];
     }
     ok
 }
@@ -197,10 +169,8 @@ fn some_seen(row: [u8; 8], marks: [bool; 8]) -> bool
     ensures { result ≡ some_seen row marks }
 {
     let mut any = false;
-    let mut j = 0;
-    while j < 8 {
-        any = any | ((row[j] != 0) & marks[j]);
-        j += 1;
+    for j in 0..8 {
+        any |= (row[j] != 0) & marks[j];
     }
     any
 }
@@ -211,34 +181,30 @@ fn turn_once(row: [u8; 8], t: Turned) -> Turned
     ensures { ((c : Config) (i : ℕ) → get_or c.limits i [] ≡ row → slots_view result ≡ slot_once c i (slots_view t)) × (result.station.phase ≤ t.station.phase + 1) }
 {
     let s = t.station;
-    let mode = s.mode;
-    let reqs = s.reqs;
-    let dones = s.dones;
-    match mode {
+    match s.mode {
         Mode::Mute => {
-            if every_seen(row, reqs) {
+            if every_seen(row, s.reqs) {
                 return Turned {
                     station: renew(s),
-                    first: t.first,
-                    second: link::RESET_DONE,
+                    second: Some(Control::ResetDone),
+                    ..t
                 };
             }
         }
         Mode::StandBy => {
-            if every_seen(row, dones) {
+            if every_seen(row, s.dones) {
                 return Turned {
                     station: wake(s),
-                    first: t.first,
-                    second: t.second,
+                    ..t
                 };
             }
         }
         Mode::Normal => {
-            if some_seen(row, reqs) {
+            if some_seen(row, s.reqs) {
                 return Turned {
                     station: begin(s),
-                    first: link::RESET_REQ,
-                    second: t.second,
+                    first: Some(Control::ResetReq),
+                    ..t
                 };
             }
         }
@@ -259,15 +225,14 @@ fn turn_all(row: [u8; 8], t: Turned) -> Turned
 // The reset rules run at station i.
 pub fn turn(limits: [[u8; 8]; 8], i: usize, s: Station) -> Turned
     requires { (i < 8) × (s.phase ≤ last_phase) }
-    ensures { ((c : Config) → c.limits ≡ limits → turned_view result ≡ turned c i (station_view s)) × (control_fits result.first ≡ true) × (control_fits result.second ≡ true) }
+    ensures { (c : Config) → c.limits ≡ limits → turned_view result ≡ turned c i (station_view s) }
 {
-    let row = limits[i];
     turn_all(
-        row,
+        limits[i],
         Turned {
             station: s,
-            first: NO_ITEM,
-            second: NO_ITEM,
+            first: None,
+            second: None,
         },
     )
 }
@@ -275,16 +240,14 @@ pub fn turn(limits: [[u8; 8]; 8], i: usize, s: Station) -> Turned
 // Station i begins a reset, and the rules run.
 pub fn start(limits: [[u8; 8]; 8], i: usize, s: Station) -> Turned
     requires { (i < 8) × (s.phase ≤ last_phase) }
-    ensures { ((c : Config) → c.limits ≡ limits → turned_view result ≡ started c i (station_view s)) × (control_fits result.first ≡ true) × (control_fits result.second ≡ true) }
+    ensures { (c : Config) → c.limits ≡ limits → turned_view result ≡ started c i (station_view s) }
 {
-    let row = limits[i];
-    let b = begin(s);
     turn_all(
-        row,
+        limits[i],
         Turned {
-            station: b,
-            first: link::RESET_REQ,
-            second: NO_ITEM,
+            station: begin(s),
+            first: Some(Control::ResetReq),
+            second: None,
         },
     )
 }

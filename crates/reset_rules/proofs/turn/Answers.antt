@@ -1,4 +1,3 @@
-use mathlib.Core.Path.{refl}
 use Rattle.station.specs.View.{station_view}
 use Rattle.reset_rules.specs.Turn.{turned}
 use Rattle.reset_rules.specs.Slots.{fresh}
@@ -9,4 +8,4 @@ pub returns : goal.returns
 returns c =
     let a = c.args in
     let x = station_view a.s in
-    promised c.turn_all.result a.limits a.i (fresh x) (λ d. turned d a.i x) (refl, refl) (λ d. slots_turned d a.i x) c.turn_all.ensures
+    promised c.turn_all.result a.limits a.i (fresh x) (λ d. turned d a.i x) (λ d. slots_turned d a.i x) c.turn_all.ensures
