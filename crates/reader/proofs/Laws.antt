@@ -1,28 +1,17 @@
 -- How many records bytes say they have, and where opening leads: on any bytes. Assumes nothing.
-use Prim.Native.Nat.{ℕ, ◌+◌, ◌*◌, ◌-◌, ◌/◌, ◌≤◌, ◌<◌}
+use Prim.Native.Nat.{ℕ, ◌-◌, ◌/◌, ◌≤◌, ◌<◌}
 use mathlib.Core.Path.{◌≡◌}
 use mathlib.Core.Logic.{◌≢◌}
 use mathlib.Core.List.{List}
 use native.Mathlib.Omega.{arith}
-use lib.ListN.{length, get_or}
-use lib.Seq.{get_or-take, get_or-drop}
+use lib.ListN.{length}
 use borrow.Author.Tests.{lt-ltb, le-ltb, eq-eqb, ne_eqb}
-use Rattle.archive.specs.Archive.{block_of, blocks, records}
+use Rattle.archive.specs.Archive.{blocks, records}
 use Rattle.reader.specs.Reading.{no_archive, no_such_record, goes, stays, open_at}
 
 pub records_none : (a : List ℕ) → length a / 512 < 2 → records a ≡ 0
 unfolding records blocks
 records_none a h = let e : length a / 512 - 1 ≡ 0 = omega arith in rw (eq-eqb _ 0 e)
-
--- the count is the second byte of the last whole block
-pub records_some : (a : List ℕ) (n : ℕ) → n ≡ length a / 512 → 2 ≤ n → records a ≡ (n - 2) * 15 + get_or a ((n - 1) * 512 + 1) 0
-unfolding records blocks block_of
-records_some a n e h =
-    let d : length a / 512 - 1 ≢ 0 = omega arith in
-    let p : length a / 512 - 1 - 1 ≡ n - 2 = omega arith in
-    let q : (n - 2 + 1) * 512 ≡ (n - 1) * 512 = omega arith in
-    let s : 1 < 512 = omega arith in
-    rw (ne_eqb _ 0 d, p, q, get_or-take, get_or-drop)
 
 -- where there are records there are bytes
 pub some_bytes : (a : List ℕ) (k : ℕ) → k < records a → length a ≢ 0

@@ -13,10 +13,11 @@ use Rattle.entries.proofs.Laws.{well_made-count}
 use Rattle.archive.specs.Archive.{block_of, blocks, records, record_at, find_record, found_record, archive_test}
 use Rattle.archive.proofs.Laws.{test-long, test-blocks, block_parts}
 use Rattle.archive.proofs.Tested.{record_well_made, record_length_lem}
-use Rattle.reader.specs.Reading.{tested_part, no_archive, no_such_record, stays, goes, open_at, standing, opened}
+use Rattle.reader.specs.Reading.{held, tested_part, no_archive, no_such_record, stays, goes, open_at, standing, opened}
 use Rattle.reader.specs.Made.{MadeOf, Call, opens, moves, answer_to, after_calls, as_found, Answers, OnNothing, OnRecord, OnHeader}
 use Rattle.reader.specs.declared.Reader.{Reader}
 use Rattle.reader.proofs.Laws.{open_nothing}
+use Rattle.reader.proofs.Calls.{record_nothing}
 
 -- ---- opening
 found_none : (b : List ℕ) (k at : ℕ) → archive_test b ≡ false → as_found b k at ≡ stays at no_archive
@@ -66,10 +67,6 @@ header-alone b t e = go (ℕ_discrete (blocks b) 0)
         let w = well_made-count (block_of b (blocks b - 1)) (block_parts b t (blocks b - 1) (omega arith)).0 in
         absurd (omega (arith, rw (ne_eqb _ 0 d) at e))
 
-record_nothing : (k : ℕ) → record_at [] k ≡ []
-unfolding record_at
-record_nothing k = let h : 0 / 512 ≤ k / 15 + 1 = omega arith in rw (le-ltb _ _ h)
-
 record_header : (b : List ℕ) (k : ℕ) → archive_test b ≡ true → records b ≡ 0 → record_at b k ≡ []
 unfolding record_at
 record_header b k t e =
@@ -91,7 +88,7 @@ record_found_lem b k p = go (archive_test b) refl (dec_lt k (records b))
 
 -- ---- the calls, one after the other
 record Stands (b : List ℕ) (r : Reader) : Type 0 where
-  holds : r.archive.now ≡ tested_part b
+  holds : held r ≡ tested_part b
   place : MayStand b r.at
 
 opened-found : (b : List ℕ) (r : Reader) → Stands b r → (k : ℕ) → opened r k ≡ as_found b k r.at
@@ -152,7 +149,7 @@ unfolding tested_part
 made_of_header b r e n m cs =
     let x = after_calls r cs in
     let a = made-answers b r m cs in
-    let w : x.archive.now ≡ b = rw e at a.holds in
+    let w : held x ≡ b = rw e at a.holds in
     let o : (k : ℕ) → opened x k ≡ stays x.at no_such_record = λ (k : ℕ). let l : records b ≤ k = omega arith in a.opening k ∙ found_some b k x.at e ∙ rw (le-ltb _ _ l) refl in
     record {
       holds = w;
@@ -168,7 +165,7 @@ unfolding tested_part
 made_of_archive b r e n m cs =
     let x = after_calls r cs in
     let a = made-answers b r m cs in
-    let w : x.archive.now ≡ b = rw e at a.holds in
+    let w : held x ≡ b = rw e at a.holds in
     let l : x.at < records b = go x (stands b r m cs).place (dec_lt x.at (records b)) in
     let o : (k : ℕ) → opened x k ≡ cond (ltb k (records b)) (goes k) (stays x.at no_such_record) = λ (k : ℕ). a.opening k ∙ found_some b k x.at e in
     record {

@@ -1,10 +1,15 @@
 -- A reader of an archive (document 01, "Archive blocks"): it stands on a lent archive and a record's number. Assumes nothing.
-use Rattle.std.specs.Prelude.{ℕ, zero, suc, ◌+◌, List, [], ◌∷◌, cond, eqb, ltb, length}
+use Rattle.std.specs.Prelude.{ℕ, zero, suc, ◌+◌, List, [], ◌∷◌, cond, eqb, ltb, length, Option, None, Some}
 use Rattle.archive.specs.Archive.{records, record_at, archive_test}
-use Rattle.reader.specs.declared.Place.{Place}
+use Rattle.archive.specs.declared.Archive.{Archive}
 use Rattle.reader.specs.declared.Reader.{Reader}
 
 -- ---- on bytes
+-- where a reader stands after it was opened or moved on: a refusal's number and where it was, or 0 and where it is now
+pub record Place : Type 0 where
+  pub at : ℕ
+  pub refusal : ℕ
+
 -- what a reader made of bytes stands on: the bytes where they are an archive, else nothing. Nothing is the empty part, which is no archive
 unfoldable pub tested_part : List ℕ → List ℕ
 tested_part b = cond (archive_test b) b []
@@ -39,12 +44,20 @@ reading zero a at = []
 reading (suc n) a at = record_at a at ∷ cond (eqb (next_at a at).refusal 0) (reading n a (next_at a at).at) []
 
 -- ---- of a reader
+-- the bytes of the archive that it holds; none where it holds no archive
+abbrev pub bytes_of : Option Archive → List ℕ
+bytes_of None = []
+bytes_of (Some a) = a.bytes.now
+
+abbrev pub held : Reader → List ℕ
+held r = bytes_of r.archive
+
 -- the same archive at another place
 abbrev pub standing : Reader → Place → Reader
 standing r p = record { archive = r.archive; at = p.at }
 
 abbrev pub opened : Reader → ℕ → Place
-opened r number = open_at r.archive.now number r.at
+opened r number = open_at (held r) number r.at
 
 abbrev pub advanced : Reader → Place
-advanced r = next_at r.archive.now r.at
+advanced r = next_at (held r) r.at

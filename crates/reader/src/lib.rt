@@ -1,138 +1,76 @@
-// A reader of an archive: a struct that holds the archive and a record's number. The work is done by functions on a slice and
-// numbers; those over the struct are thin. The archive is tested once, when the reader is made.
+// A reader of an archive: it stands on a record of a tested archive. The archive is tested once, when the reader is made.
 #![tactic(auto)]
 
-ghost use Rattle.std.specs.Prelude.{◌≡◌};
+ghost use Rattle.std.specs.Prelude.{◌≡◌, ◌≢◌, length, IfOk, IfErr};
 ghost use Rattle.archive.specs.Archive.{records, record_at};
-ghost use Rattle.reader.specs.Reading.{tested_part, open_at, next_at, standing, opened, advanced};
+ghost use Rattle.refusals.specs.Numbers.{told};
+ghost use Rattle.refusals.specs.declared.Refusal.TheVariants.{Malformed};
+ghost use Rattle.reader.specs.Reading.{held, standing, opened, advanced};
 ghost use Rattle.reader.specs.Made.{MadeOf};
 
-// Where a reader stands after it was opened or moved on: a refusal's number, and where it was; or 0 and where it is now.
-#[derive(Clone, Copy)]
-struct Place {
-    at: usize,
-    refusal: u8,
-}
+use archive::Archive;
+use refusals::Refusal;
 
-// The archive was tested, or it is the empty part: the fields are private, so every reader comes from `new`.
+// The archive, if the bytes are one, and the number of the record on which the reader stands.
 #[derive(Clone, Copy)]
 pub struct Reader<'a> {
-    archive: &'a [u8],
+    archive: Option<Archive<'a>>,
     at: usize,
 }
 
-fn wide(x: u8) -> usize
-    ensures { result ≡ x }
-{
-    x as usize
-}
+impl<'a> Reader<'a> {
+    // A reader on record 0; the bytes are tested here and never again. Where they are no archive, every call on it is refused as
+    // `Malformed`. Of a header alone it has no record to stand on, and every call is refused as `NoSuchRecord`.
+    pub fn new(bytes: &'a [u8]) -> Reader<'a>
+        ensures { MadeOf bytes.now result }
+    {
+        Reader {
+            archive: Archive::open(bytes).ok(),
+            at: 0,
+        }
+    }
 
-// How many records the length and the last block's count say; any bytes are answered, in constant time.
-fn count(archive: &[u8]) -> usize
-    ensures { result ≡ records archive.now }
-{
-    let n = archive.len() / checksum::BLOCK;
-    if n < 2 {
-        return 0;
+    // How many records there are to stand on; `Malformed` where it holds no archive.
+    fn count(self) -> Result<usize, Refusal>
+        ensures ok { IfOk result (λ n. (n ≡ records (held self.entry)) × (length (held self.entry) ≢ 0)) }
+        ensures err { IfErr result (λ refusal. (refusal ≡ Malformed) × (length (held self.entry) ≡ 0)) }
+    {
+        match self.archive {
+            Some(archive) => Ok(archive.records()),
+            None => Err(Refusal::Malformed),
+        }
     }
-    let o = (n - 1) * checksum::BLOCK + 1;
-    (n - 2) * 15 + wide(archive[o])
-}
 
-// What a reader made of these bytes stands on: the bytes where they are an archive, else an empty part of them.
-fn tested<'a>(archive: &'a [u8]) -> &'a [u8]
-    ensures { result.now ≡ tested_part archive.now }
-{
-    if archive::test(archive) {
-        return archive;
+    // Opens the reader at a record's number, in constant time. Refused, as `Malformed` or `NoSuchRecord`, it stays.
+    #[tactic(auto, using(crate::proofs::Calls::opened_nothing, crate::proofs::Calls::opened_past, crate::proofs::Calls::opened_there))]
+    pub fn open(&mut self, number: usize) -> Result<(), Refusal>
+        ensures { (told result ≡ (opened self.old number).refusal) × (self.new ≡ standing self.old (opened self.old number)) }
+    {
+        if self.count()? <= number {
+            return Err(Refusal::NoSuchRecord);
+        }
+        self.at = number;
+        Ok(())
     }
-    &archive[0..0]
-}
 
-// Opens at a record's number, from place `at`: 1 on the empty part, 12 where there is no such record, or 0. In constant time.
-fn open_at(archive: &[u8], number: usize, at: usize) -> Place
-    ensures { result ≡ open_at archive.now number at }
-{
-    if archive.len() == 0 {
-        return Place {
-            at,
-            refusal: refusals::MALFORMED,
-        };
+    // The record on which the reader stands, as the caller's own 32 bytes; an empty part where it stands on none.
+    pub fn record(self) -> &'a [u8]
+        ensures { result.now ≡ record_at (held self.entry) self.entry.at }
+    {
+        match self.archive {
+            Some(archive) => archive.record(self.at),
+            None => &[],
+        }
     }
-    if count(archive) <= number {
-        return Place {
-            at,
-            refusal: refusals::NO_SUCH_RECORD,
-        };
-    }
-    Place {
-        at: number,
-        refusal: 0,
-    }
-}
 
-// Moves on from place `at` by one: what opening at the next number answers, also where there is no next number.
-fn next_at(archive: &[u8], at: usize) -> Place
-    ensures { result ≡ next_at archive.now at }
-{
-    if archive.len() == 0 {
-        return Place {
-            at,
-            refusal: refusals::MALFORMED,
-        };
+    // Moves the reader on by one. Refused, as `Malformed` or, from the last record, as `NoSuchRecord`, it stays.
+    #[tactic(auto, using(crate::proofs::Calls::opened_nothing, crate::proofs::Calls::opened_past))]
+    pub fn advance(&mut self) -> Result<(), Refusal>
+        ensures { (told result ≡ (advanced self.old).refusal) × (self.new ≡ standing self.old (advanced self.old)) }
+    {
+        if self.count()? <= self.at {
+            return Err(Refusal::NoSuchRecord);
+        }
+        self.open(self.at + 1)
     }
-    let n = count(archive);
-    if n <= at {
-        return Place {
-            at,
-            refusal: refusals::NO_SUCH_RECORD,
-        };
-    }
-    let next = at + 1;
-    if n <= next {
-        return Place {
-            at,
-            refusal: refusals::NO_SUCH_RECORD,
-        };
-    }
-    Place {
-        at: next,
-        refusal: 0,
-    }
-}
-
-// A reader on record 0; the archive is tested here and never again. Of bytes that are no archive it stands on the empty part,
-// and every call on it is refused by 1. Of a header alone it has no record to stand on, and every call is refused by 12.
-pub fn new<'a>(archive: &'a [u8]) -> Reader<'a>
-    ensures { MadeOf archive.now result }
-{
-    Reader {
-        archive: tested(archive),
-        at: 0,
-    }
-}
-
-// Opens the reader at a record's number: 1, 12 and it stays, or 0 and it stands there.
-pub fn open<'s, 'a>(r: &'s mut Reader<'a>, number: usize) -> u8
-    ensures { (result ≡ (opened r.old number).refusal) × (r.new ≡ standing r.old (opened r.old number)) }
-{
-    let p = open_at(r.archive, number, r.at);
-    r.at = p.at;
-    p.refusal
-}
-
-// The record on which the reader stands, as the caller's own 32 bytes; an empty part where it stands on none.
-pub fn record<'a>(r: Reader<'a>) -> &'a [u8]
-    ensures { result.now ≡ record_at r.entry.archive.now r.entry.at }
-{
-    archive::record_at(r.archive, r.at)
-}
-
-// Moves the reader on by one: 1, from the last record 12, and it stays; else 0.
-pub fn advance<'s, 'a>(r: &'s mut Reader<'a>) -> u8
-    ensures { (result ≡ (advanced r.old).refusal) × (r.new ≡ standing r.old (advanced r.old)) }
-{
-    let p = next_at(r.archive, r.at);
-    r.at = p.at;
-    p.refusal
 }
