@@ -2,6 +2,7 @@
 #![tactic(auto)]
 
 ghost use Rattle.std.specs.Prelude.{◌≡◌, true, false, ◌≤◌, ◌+◌, ◌*◌, length, IfOk, IfErr};
+ghost use Rattle.codec.specs.Num.{AreBytes};
 ghost use Rattle.header.specs.Header.{parse_header, table_at};
 ghost use Rattle.front_table.specs.Fronts.{Fronts};
 ghost use Rattle.archive.specs.Archive.{blocks_fit, archive_test, records as records_of, record_at, count_records, find_record, found_record};
@@ -66,6 +67,7 @@ pub fn record_at<'a>(a: &'a [u8], k: usize) -> &'a [u8]
 pub struct Archive<'a> {
     pub bytes: &'a [u8],
     ghost tested: { archive_test bytes.now ≡ true },
+    ghost fit: { AreBytes bytes.now },
 }
 
 impl<'a> Archive<'a> {
