@@ -3,83 +3,42 @@
 
 ghost use Rattle.std.specs.Prelude.{◌≡◌, ◌<◌, get_or};
 
-use clock::Verdict;
+use check_vectors::{Spaced, with, word};
+use std::io::Result;
 
-fn wide(x: u16) -> u64 {
-    x as u64
+fn yes(b: bool) -> &'static str {
+    if b { "yes" } else { "no" }
 }
 
-// The counts, a space before each.
-fn show(c: [u16; 8]) {
-    let mut k = 0;
-    while k < 8 {
-        io::write_all(1, b" ");
-        io::print_decimal(1, wide(c[k]));
-        k += 1;
-    }
+fn order(rt: &impl Print, a: [u16; 8], b: [u16; 8]) -> Result<()> {
+    let order = word(clock::compare(a, b));
+    println!(rt; "compare{} and{}: {order}", Spaced(&a), Spaced(&b))
 }
 
-fn order(a: [u16; 8], b: [u16; 8]) {
-    io::write_all(1, b"compare");
-    show(a);
-    io::write_all(1, b" and");
-    show(b);
-    match clock::compare(a, b) {
-        Verdict::Before => {
-            io::write_all(1, b": before\n");
-        }
-        Verdict::After => {
-            io::write_all(1, b": after\n");
-        }
-        Verdict::Same => {
-            io::write_all(1, b": same\n");
-        }
-        Verdict::Unordered => {
-            io::write_all(1, b": unordered\n");
-        }
-    }
+fn bound(rt: &impl Print, a: [u16; 8], t: u16) -> Result<()> {
+    let fit = yes(clock::counts_fit(a, 8, t));
+    println!(rt; "within{} and {t}: {fit}", Spaced(&a))
 }
 
-fn bound(a: [u16; 8], t: u16) {
-    io::write_all(1, b"within");
-    show(a);
-    io::write_all(1, b" and ");
-    io::print_decimal(1, wide(t));
-    if clock::counts_fit(a, 8, t) {
-        io::write_all(1, b": yes\n");
-    } else {
-        io::write_all(1, b": no\n");
-    }
-}
-
-fn join(a: [u16; 8], b: [u16; 8]) {
-    io::write_all(1, b"merge");
-    show(a);
-    io::write_all(1, b" and");
-    show(b);
-    io::write_all(1, b":");
-    show(clock::merge(a, b));
-    io::write_all(1, b"\n");
+fn join(rt: &impl Print, a: [u16; 8], b: [u16; 8]) -> Result<()> {
+    let merged = clock::merge(a, b);
+    println!(rt; "merge{} and{}:{}", Spaced(&a), Spaced(&b), Spaced(&merged))
 }
 
 // The steps of station i: an entry of its own, and a receipt of b with its news.
-fn step(a: [u16; 8], b: [u16; 8], i: usize)
+fn step(rt: &impl Print, a: [u16; 8], b: [u16; 8], i: usize) -> Result<()>
     requires { (i < 8) × (get_or a i 0 < 65535) }
 {
-    io::write_all(1, b"advance");
-    show(a);
-    io::write_all(1, b":");
-    show(clock::advance(a, i));
-    io::write_all(1, b"\nraise");
-    show(a);
-    io::write_all(1, b" by");
-    show(b);
-    io::write_all(1, b":");
+    let advanced = clock::advance(a, i);
     let raised = clock::raise(a, b, i);
-    show(raised);
-    io::write_all(1, b", news ");
-    io::print_decimal(1, clock::news(a, raised, i) as u64);
-    io::write_all(1, b"\n");
+    let news = clock::news(a, raised, i);
+    println!(rt; "advance{}:{}", Spaced(&a), Spaced(&advanced))?;
+    println!(rt;
+        "raise{} by{}:{}, news {news}",
+        Spaced(&a),
+        Spaced(&b),
+        Spaced(&raised)
+    )
 }
 
 // Counts of 5, with x at place i.
@@ -87,9 +46,7 @@ fn fives(i: usize, x: u16) -> [u16; 8]
     requires { i < 8 }
     ensures { get_or result i 0 ≡ x }
 {
-    let mut c = [5u16; 8];
-    c[i] = x;
-    c
+    with(5, i, x)
 }
 
 // Sixes up to place i, and fours behind it.
@@ -97,103 +54,72 @@ fn up_to(i: usize) -> [u16; 8]
     requires { i < 8 }
 {
     let mut c = [4u16; 8];
-    let mut k = 0;
-    while k <= i {
-        c[k] = 6;
-        k += 1;
-    }
+    c[..i + 1].fill(6);
     c
 }
 
 // One count that differs, at place i; then another at place j too.
-fn orders(i: usize, j: usize)
+fn orders(rt: &impl Print, i: usize, j: usize) -> Result<()>
     requires { (i < 8) × (j < 8) }
 {
-    order(fives(i, 4), fives(i, 5));
-    order(fives(i, 6), fives(i, 5));
-    order(fives(i, 0), fives(i, 65535));
-    order(fives(i, 65535), fives(i, 0));
-    order(fives(i, 4), fives(j, 4));
+    order(rt, fives(i, 4), fives(i, 5))?;
+    order(rt, fives(i, 6), fives(i, 5))?;
+    order(rt, fives(i, 0), fives(i, 65535))?;
+    order(rt, fives(i, 65535), fives(i, 0))?;
+    order(rt, fives(i, 4), fives(j, 4))
 }
 
-fn counts(i: usize, j: usize)
+fn merges(rt: &impl Print, i: usize, j: usize) -> Result<()>
     requires { (i < 8) × (j < 8) }
 {
-    bound(fives(i, 6), 6);
-    bound(fives(i, 6), 5);
-    join(fives(i, 65535), fives(j, 7));
-    step(fives(i, 65534), fives(j, 8), i);
-    step(fives(i, 3), fives(i, 65535), i);
-    step(fives(i, 5), up_to(i), i);
+    bound(rt, fives(i, 6), 6)?;
+    bound(rt, fives(i, 6), 5)?;
+    join(rt, fives(i, 65535), fives(j, 7))?;
+    step(rt, fives(i, 65534), fives(j, 8), i)?;
+    step(rt, fives(i, 3), fives(i, 65535), i)?;
+    step(rt, fives(i, 5), up_to(i), i)
 }
 
-fn places() {
-    let mut i = 0;
-    while i < 8 {
+fn places(rt: &impl Print) -> Result<()> {
+    for i in 0..8 {
         let j = (i + 1) % 8;
-        orders(i, j);
-        counts(i, j);
-        i += 1;
+        orders(rt, i, j)?;
+        merges(rt, i, j)?;
     }
-}
-
-// Zeros, with x at place i.
-fn only(i: usize, x: u16) -> [u16; 8]
-    requires { i < 8 }
-{
-    let mut c = [0u16; 8];
-    c[i] = x;
-    c
-}
-
-fn fit(a: [u16; 8], n: u8, t: u16) {
-    if clock::counts_fit(a, n, t) {
-        io::write_all(1, b" yes");
-    } else {
-        io::write_all(1, b" no");
-    }
+    Ok(())
 }
 
 // One count x at each place in turn, the others 0.
-fn fits(n: u8, x: u16, t: u16) {
-    let mut i = 0;
-    while i < 8 {
-        fit(only(i, x), n, t);
-        i += 1;
+fn alone(rt: &impl Print, n: u8, x: u16, t: u16) -> Result<()> {
+    print!(rt; "count {x} within {t} of stations {n}:")?;
+    for i in 0..8 {
+        print!(rt; " {}", yes(clock::counts_fit(with(0, i, x), n, t)))?;
     }
-}
-
-fn alone(n: u8, x: u16, t: u16) {
-    io::write_all(1, b"count ");
-    io::print_decimal(1, wide(x));
-    io::write_all(1, b" within ");
-    io::print_decimal(1, wide(t));
-    io::write_all(1, b" of stations ");
-    io::print_decimal(1, wide(n as u16));
-    io::write_all(1, b":");
-    fits(n, x, t);
-    io::write_all(1, b"\n");
+    println!(rt; "")
 }
 
 // A count that is at most t is wrong for stations n and above alone, one above t for those below n too.
-fn stations() {
-    let mut n: u8 = 1;
-    while n < 9 {
-        alone(n, 1, 1);
-        alone(n, 65535, 65535);
-        alone(n, 2, 1);
-        n += 1;
+fn stations(rt: &impl Print) -> Result<()> {
+    for n in 1..9 {
+        alone(rt, n, 1, 1)?;
+        alone(rt, n, 65535, 65535)?;
+        alone(rt, n, 2, 1)?;
     }
+    Ok(())
 }
 
-fn main() {
-    order([1, 0, 0, 0, 0, 0, 0, 0], [2, 1, 0, 0, 0, 0, 0, 0]);
-    order([0, 1, 0, 0, 0, 0, 0, 0], [1, 0, 0, 0, 0, 0, 0, 0]);
-    order([0; 8], [0; 8]);
-    order([65535; 8], [65535; 8]);
-    order([0; 8], [65535; 8]);
-    order([65535; 8], [0; 8]);
-    join([1, 9, 3, 0, 65535, 0, 7, 2], [2, 8, 3, 65535, 0, 0, 6, 4]);
-    places();
-    stations();
+fn main(rt: HostRuntime) -> Result<()> {
+    order(&rt, [1, 0, 0, 0, 0, 0, 0, 0], [2, 1, 0, 0, 0, 0, 0, 0])?;
+    order(&rt, [0, 1, 0, 0, 0, 0, 0, 0], [1, 0, 0, 0, 0, 0, 0, 0])?;
+    order(&rt, [0; 8], [0; 8])?;
+    order(&rt, [65535; 8], [65535; 8])?;
+    order(&rt, [0; 8], [65535; 8])?;
+    order(&rt, [65535; 8], [0; 8])?;
+    join(
+        &rt,
+        [1, 9, 3, 0, 65535, 0, 7, 2],
+        [2, 8, 3, 65535, 0, 0, 6, 4],
+    )?;
+    places(&rt)?;
+    stations(&rt)
 }

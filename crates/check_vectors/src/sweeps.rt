@@ -1,41 +1,22 @@
-// Classes of cases that header blocks, entries blocks and records share: kind 1, 2 and 3, and 4 for bytes that are to be a record.
+// Classes of cases that header blocks, entries blocks and records share.
 ghost use Rattle.std.specs.Prelude.{◌≤◌};
 
-use entries::EntriesRead;
-
-fn entries_answer(s: &[u8]) -> u8 {
-    match entries::read(s) {
-        EntriesRead::Block {
-            number: _,
-            count: _,
-        } => 0,
-        EntriesRead::Refused(r) => r,
-    }
-}
+use crate::Line;
+use codec::Number;
+use std::io::Result;
 
 // 0 for a record, or 1.
 pub fn record_answer(s: &[u8]) -> u8 {
     if record::well_made(s) { 0 } else { 1 }
 }
 
-fn first_answer(s: &[u8]) -> u8 {
-    if s.len() < 32 {
-        return 1;
-    }
-    record_answer(&s[0..32])
-}
-
-fn header_answer(s: &[u8]) -> u8 {
-    let r = header::read(s);
-    r.refusal
-}
-
-// What the reader of a kind answers: 0, or a refusal's number. Of kind 3 the first 32 bytes are read.
+// What the reader of a kind answers, 0 or a refusal's number: 1 a header block, 2 an entries block, 3 a record in the first 32 bytes, 4 a record.
 fn answer(kind: u8, s: &[u8]) -> u8 {
     match kind {
-        1 => header_answer(s),
-        2 => entries_answer(s),
-        3 => first_answer(s),
+        1 => refusals::told(header::read(s).map(|_| ())),
+        2 => refusals::told(entries::read(s).map(|_| ())),
+        3 if s.len() < 32 => 1,
+        3 => record_answer(&s[..32]),
         _ => record_answer(s),
     }
 }
@@ -50,41 +31,28 @@ pub fn resealed(kind: u8, good: &[u8], at: usize, x: u8) -> u8 {
 }
 
 // How many of the bytes of a part, set to x and sealed again, are refused.
-fn refused(kind: u8, good: &[u8], from: usize, to: usize, x: u8) -> u64
+fn refused(kind: u8, good: &[u8], from: usize, to: usize, x: u8) -> usize
     requires { to ≤ 512 }
 {
-    let mut n: u64 = 0;
-    let mut p = from;
-    while p <= to {
-        n += crate::one(resealed(kind, good, p, x) == 1);
-        p += 1;
-    }
-    n
+    (from..=to)
+        .filter(|p| resealed(kind, good, *p, x) == 1)
+        .count()
 }
 
 // How many values of a byte are accepted, sealed again.
-fn values(kind: u8, good: &[u8], at: usize) -> u64
-    ensures { result ≤ 256 }
-{
-    let mut n: u64 = 0;
-    let mut x: u32 = 0;
-    while x < 256 {
-        n += crate::one(resealed(kind, good, at, x as u8) == 0);
-        x += 1;
-    }
-    n
+fn values(kind: u8, good: &[u8], at: usize) -> usize {
+    (0..=u8::MAX)
+        .filter(|x| resealed(kind, good, at, *x) == 0)
+        .count()
 }
 
 // The same of each byte of a part, by its line: a kind, and the part's last byte and first.
-pub fn table(good: &[u8], s: &[u8]) {
-    let to = crate::up_to(s, 2, 512);
-    io::write_all(1, b":");
-    let mut p = crate::size(s, 3);
-    while p <= to {
-        crate::put(b" ", values(crate::byte(s, 1), good, p));
-        p += 1;
+pub fn table(rt: &impl Print, good: &[u8], s: Line) -> Result<()> {
+    print!(rt; ":")?;
+    for p in s.size(3)..=s.up_to(2, 512) {
+        print!(rt; " {}", values(s.byte(1), good, p))?;
     }
-    crate::end();
+    println!(rt; "")
 }
 
 // The answer to a copy with one byte raised, and not sealed.
@@ -96,25 +64,17 @@ fn moved(kind: u8, good: &[u8], at: usize, by: u8) -> u8 {
 }
 
 // How many of the 512 bytes, each raised alone, are refused.
-fn moves(kind: u8, good: &[u8], by: u8) -> u64
+fn moves(kind: u8, good: &[u8], by: u8) -> usize
     ensures { result ≤ 512 }
 {
-    let mut n: u64 = 0;
-    let mut p = 0;
-    while p < 512 {
-        n += crate::one(moved(kind, good, p, by) == 1);
-        p += 1;
-    }
-    n
+    (0..512).filter(|p| moved(kind, good, *p, by) == 1).count()
 }
 
 // The same for each of the 255 other values.
-fn all_moves(kind: u8, good: &[u8]) -> u64 {
-    let mut n: u64 = 0;
-    let mut by: u32 = 1;
-    while by < 256 {
-        n += moves(kind, good, by as u8);
-        by += 1;
+fn all_moves(kind: u8, good: &[u8]) -> usize {
+    let mut n = 0;
+    for by in 1..=u8::MAX {
+        n += moves(kind, good, by);
     }
     n
 }
@@ -123,19 +83,15 @@ fn all_moves(kind: u8, good: &[u8]) -> u64 {
 fn stored(kind: u8, good: &[u8], x: u16) -> u8 {
     let mut b = [0u8; 512];
     crate::copy(&mut b, good);
-    codec::put16(&mut b, 510, x);
+    x.put(&mut b, 510);
     answer(kind, &b)
 }
 
 // How many numbers are accepted for a check.
-fn all_stored(kind: u8, good: &[u8]) -> u64 {
-    let mut n: u64 = 0;
-    let mut x: u32 = 0;
-    while x < 65536 {
-        n += crate::one(stored(kind, good, x as u16) == 0);
-        x += 1;
-    }
-    n
+fn all_stored(kind: u8, good: &[u8]) -> usize {
+    (0..=u16::MAX)
+        .filter(|x| stored(kind, good, *x) == 0)
+        .count()
 }
 
 // The answer to the first n of 600 bytes, the good block and zeros.
@@ -147,38 +103,20 @@ fn cut(kind: u8, good: &[u8], n: usize) -> u8
     answer(kind, &b[0..n])
 }
 
-fn single(class: u64, kind: u8, good: &[u8], s: &[u8]) -> u8 {
-    match class {
-        1 => resealed(kind, good, crate::size(s, 2), crate::byte(s, 3)),
-        2 => stored(kind, good, crate::half(s, 2)),
-        3 => cut(kind, good, crate::up_to(s, 2, 600)),
-        _ => answer(kind, good),
-    }
-}
-
-fn class(class: u64, kind: u8, good: &[u8], s: &[u8]) -> u64 {
-    match class {
-        5 => refused(
-            kind,
-            good,
-            crate::size(s, 2),
-            crate::up_to(s, 3, 512),
-            crate::byte(s, 4),
-        ),
-        6 => moves(kind, good, crate::byte(s, 2)),
-        7 => all_moves(kind, good),
-        _ => all_stored(kind, good),
-    }
-}
-
 // A case on a good block, by its line: a class, a kind of block, and
-// 1 a byte's place and value, 2 the number for its check, 3 the length that it is cut to: the answer;
-// 5 a part's first and last byte and a value for each, 6 by how much each byte is raised, 7 all of these,
-// 8 all numbers for its check: how many are refused, or of 8 accepted.
-pub fn sweep(good: &[u8], s: &[u8]) -> u64 {
-    let k = crate::field(s, 0);
-    if k < 5 {
-        return crate::wide(single(k, crate::byte(s, 1), good, s));
+// 1 a byte's place and value, 2 the number for its check, 3 the length that it is cut to, 4 nothing: the answer;
+// 5 a part's first and last byte and a value for each, 6 by how much each byte is raised, 7 all of these: how many are refused;
+// 8 all numbers for its check: how many are accepted.
+pub fn sweep(good: &[u8], s: Line) -> usize {
+    let kind = s.byte(1);
+    match s.number(0) {
+        1 => usize::from(resealed(kind, good, s.size(2), s.byte(3))),
+        2 => usize::from(stored(kind, good, s.half(2))),
+        3 => usize::from(cut(kind, good, s.up_to(2, 600))),
+        5 => refused(kind, good, s.size(2), s.up_to(3, 512), s.byte(4)),
+        6 => moves(kind, good, s.byte(2)),
+        7 => all_moves(kind, good),
+        8 => all_stored(kind, good),
+        _ => usize::from(answer(kind, good)),
     }
-    class(k, crate::byte(s, 1), good, s)
 }

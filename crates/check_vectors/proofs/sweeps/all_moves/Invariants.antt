@@ -1,8 +1,5 @@
-use Rattle.std.proofs.Common.{◌-◌, ◌*◌, ◌≤◌}
+use Rattle.std.proofs.Common.{◌*◌, ◌≤◌}
 use Rattle.check_vectors.proofs.sweeps.all_moves.Given as goal
 
 abbrev pub invariant-loop-by : goal.invariant-loop-by
 invariant-loop-by l = (l.n ≤ l.by * 512) × (l.by ≤ 256)
-
-abbrev pub decreases-loop-by : goal.decreases-loop-by
-decreases-loop-by l = 256 - l.by
