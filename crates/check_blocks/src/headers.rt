@@ -1,7 +1,10 @@
 // Header blocks.
-ghost use Rattle.std.specs.Prelude.{◌<◌, ◌≤◌, length};
+ghost use Rattle.std.specs.Prelude.{◌<◌};
 
-use header::{Header, HeaderRead};
+use check_vectors::{Left, Line, Spaced};
+use header::Header;
+use refusals::told;
+use std::io;
 
 const LIMITS: [[u8; 8]; 8] = [
     [0, 1, 2, 3, 4, 5, 6, 7],
@@ -14,114 +17,85 @@ const LIMITS: [[u8; 8]; 8] = [
     [1, 0, 0, 0, 0, 0, 0, 32],
 ];
 
+const NONE: Header = Header {
+    n: 0,
+    t: 0,
+    allowances: [0; 8],
+};
+
 // All allowances the line's, or each another.
-fn allowances_of(s: &[u8]) -> [u16; 8] {
-    if check_vectors::field(s, 1) == 1 {
+fn allowances_of(s: Line) -> [u16; 8] {
+    if s.number(1) == 1 {
         return [0, 1, 255, 256, 257, 4660, 65534, 65535];
     }
-    [check_vectors::half(s, 2); 8]
+    [s.half(2); 8]
 }
 
-fn limits_of(s: &[u8]) -> [[u8; 8]; 8] {
-    if check_vectors::field(s, 1) == 1 {
+fn limits_of(s: Line) -> [[u8; 8]; 8] {
+    if s.number(1) == 1 {
         return LIMITS;
     }
-    [[check_vectors::byte(s, 3); 8]; 8]
+    [[s.byte(3); 8]; 8]
 }
 
-fn header_of(s: &[u8]) -> Header {
+fn header_of(s: Line) -> Header {
     Header {
-        n: check_vectors::byte(s, 4),
-        t: check_vectors::half(s, 5),
+        n: s.byte(4),
+        t: s.half(5),
         allowances: allowances_of(s),
     }
 }
 
-fn part(s: &[u8], d: &mut [u8], n: usize) -> u8
-    requires { n ≤ length d.old }
-{
-    header::write(header_of(s), limits_of(s), &mut d[0..n])
-}
-
 // Writes into the first of 600 bytes 7.
-pub fn into(s: &[u8]) {
+pub fn into(rt: &impl Print, s: Line) -> io::Result<()> {
     let mut d = [7u8; 600];
-    let r = part(s, &mut d, check_vectors::up_to(s, 6, 600));
-    check_vectors::left(check_vectors::wide(r), &d);
-}
-
-fn block(s: &[u8]) -> [u8; 512] {
-    let mut d = [7u8; 512];
-    part(s, &mut d, 512);
-    d
+    let r = header::write(header_of(s), limits_of(s), &mut d[..s.up_to(6, 600)]);
+    println!(rt; ": {}, {}", told(r), Left(&d))
 }
 
 // A block, or one with a byte set.
-pub fn made(s: &[u8]) -> [u8; 512] {
-    let mut d = block(s);
-    if check_vectors::field(s, 0) == 11 {
-        check_vectors::poke(&mut d, check_vectors::size(s, 6), check_vectors::byte(s, 7));
+pub fn made(s: Line) -> [u8; 512] {
+    let mut d = [7u8; 512];
+    let _ = header::write(header_of(s), limits_of(s), &mut d);
+    if s.number(0) == 11 {
+        check_vectors::poke(&mut d, s.size(6), s.byte(7));
     }
     d
 }
 
-fn show_row(row: [u8; 8]) {
-    check_vectors::show(&row);
-}
-
-fn show_limits(m: [[u8; 8]; 8]) {
-    io::write_all(1, b", limits");
-    let mut i = 0;
-    while i < 8 {
-        let row = m[i];
-        show_row(row);
-        i += 1;
-    }
-    check_vectors::end();
-}
-
-fn fields(r: HeaderRead) {
-    let h = r.header;
-    check_vectors::put(b"header read: ", check_vectors::wide(r.refusal));
-    check_vectors::put(b", n ", check_vectors::wide(h.n));
-    check_vectors::put(b", t ", check_vectors::wide16(h.t));
-    io::write_all(1, b", allowances");
-    let a = h.allowances;
-    check_vectors::show_counts(a);
-}
-
 // What is read of a block: a header that is refused gives no fields.
-pub fn shown(s: &[u8]) {
-    fields(header::read(s));
-    show_limits(header::read_limits(s));
+pub fn shown(rt: &impl Print, d: &[u8]) -> io::Result<()> {
+    let r = header::read(d);
+    let h = r.unwrap_or(NONE);
+    let limits = header::read_limits(d);
+    println!(rt;
+        "header read: {}, n {}, t {}, allowances{}, limits{}",
+        told(r.map(|_| ())),
+        h.n,
+        h.t,
+        Spaced(&h.allowances),
+        Spaced(limits.as_flattened())
+    )
 }
 
 // The answer to a write with one limit x.
 fn limit(k: usize, x: u8) -> u8
     requires { k < 64 }
 {
-    let i = k / 8;
-    let j = k % 8;
     let mut m = [[0u8; 8]; 8];
-    let mut row = [0u8; 8];
-    row[j] = x;
-    m[i] = row;
+    m[k / 8][k % 8] = x;
     let mut d = [7u8; 512];
     let h = Header {
         n: 8,
         t: 1,
         allowances: [0u16; 8],
     };
-    header::write(h, m, &mut d)
+    told(header::write(h, m, &mut d))
 }
 
 // How many of the 64 places are answered so.
-pub fn limits(s: &[u8]) -> u64 {
-    let mut n: u64 = 0;
-    let mut k = 0;
-    while k < 64 {
-        n += check_vectors::one(limit(k, check_vectors::byte(s, 1)) == check_vectors::byte(s, 2));
-        k += 1;
-    }
-    n
+pub fn limits(s: Line) -> usize {
+    (0..64)
+        .filter(|k| limit(*k, s.byte(1)) == s.byte(2))
+        .count()
 }

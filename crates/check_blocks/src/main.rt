@@ -6,8 +6,11 @@
 mod headers;
 mod numbers;
 
-fn counted(k: u64, d: &[u8], s: &[u8]) -> u64 {
-    match k {
+use check_vectors::Line;
+use std::io::Result;
+
+fn counted(d: &[u8], s: Line) -> usize {
+    match s.number(0) {
         12 => numbers::backs(),
         13 => numbers::zeros(s),
         14 => numbers::found(s),
@@ -21,65 +24,30 @@ fn counted(k: u64, d: &[u8], s: &[u8]) -> u64 {
     }
 }
 
-fn told(k: u64, d: &[u8], s: &[u8]) {
-    match k {
-        9 => {
-            check_vectors::table(d, s);
-        }
-        21 => {
-            numbers::two(s);
-        }
-        22 => {
-            numbers::four(s);
-        }
-        23 => {
-            numbers::row(s);
-        }
-        24 => {
-            numbers::run(s);
-        }
-        25 => {
-            numbers::sealed(s);
-        }
-        26 => {
-            headers::into(s);
-        }
-        27 => {
-            headers::shown(d);
-        }
-        _ => {
-            check_vectors::say(b": ", counted(k, d, s));
-        }
+fn case(rt: &impl Print, d: &[u8], s: Line) -> Result<()> {
+    print!(rt; "{}", s.label())?;
+    match s.number(0) {
+        9 => check_vectors::table(rt, d, s),
+        21 => numbers::two(rt, s),
+        22 => numbers::four(rt, s),
+        23 => numbers::row(rt, s),
+        24 => numbers::run(rt, s),
+        25 => numbers::sealed(rt, s),
+        26 => headers::into(rt, s),
+        27 => headers::shown(rt, d),
+        _ => println!(rt; ": {}", counted(d, s)),
     }
 }
 
-fn case(d: [u8; 512], s: &[u8]) {
-    check_vectors::label(s);
-    told(check_vectors::field(s, 0), &d, s);
-}
-
-fn makes(s: &[u8]) -> bool {
-    let k = check_vectors::field(s, 0);
-    (10 <= k) & (k < 12)
-}
-
-fn lines(input: &[u8]) {
+fn main(rt: HostRuntime) -> Result<()> {
+    let mut room = [0u8; 65536];
     let mut d = [7u8; 512];
-    let mut at = 0;
-    while at < input.len() {
-        let end = check_vectors::find(input, at, b'\n');
-        let s = &input[at..end];
-        if makes(s) {
-            d = headers::made(s);
-        } else {
-            case(d, s);
+    for s in check_vectors::text(&mut room)?.lines() {
+        let s = Line(s);
+        match s.number(0) {
+            10 | 11 => d = headers::made(s),
+            _ => case(&rt, &d, s)?,
         }
-        at = end + 1;
     }
-}
-
-fn main() {
-    let mut input = io::large_buffer();
-    let n = io::read_full(0, &mut input);
-    lines(&input[0..n]);
+    Ok(())
 }

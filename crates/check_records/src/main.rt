@@ -7,17 +7,11 @@ mod blocks;
 mod records;
 mod verdicts;
 
-fn made(s: &[u8]) -> [u8; 512] {
-    match check_vectors::field(s, 0) {
-        10 => records::made(s),
-        11 => blocks::made(s),
-        12 => blocks::spoilt(s),
-        _ => blocks::other_kind(),
-    }
-}
+use check_vectors::Line;
+use std::io::Result;
 
-fn counted(k: u64, d: &[u8], s: &[u8]) -> u64 {
-    match k {
+fn counted(d: &[u8], s: Line) -> usize {
+    match s.number(0) {
         14 => records::fits(d),
         15 => blocks::ill(d, s),
         16 => blocks::own_fields(d, s),
@@ -29,59 +23,31 @@ fn counted(k: u64, d: &[u8], s: &[u8]) -> u64 {
     }
 }
 
-fn told(k: u64, d: &[u8], s: &[u8]) {
-    match k {
-        9 => {
-            check_vectors::table(d, s);
-        }
-        21 => {
-            records::trip(s);
-        }
-        22 => {
-            blocks::into(s);
-        }
-        23 => {
-            blocks::shown(d);
-        }
-        24 => {
-            blocks::fetch(d, s);
-        }
-        25 => {
-            verdicts::pair(s);
-        }
-        _ => {
-            check_vectors::say(b": ", counted(k, d, s));
-        }
+fn case(rt: &impl Print, d: &[u8], s: Line) -> Result<()> {
+    print!(rt; "{}", s.label())?;
+    match s.number(0) {
+        9 => check_vectors::table(rt, d, s),
+        21 => records::trip(rt, s),
+        22 => blocks::into(rt, s),
+        23 => blocks::shown(rt, d),
+        24 => blocks::fetch(rt, d, s),
+        25 => verdicts::pair(rt, s),
+        _ => println!(rt; ": {}", counted(d, s)),
     }
 }
 
-fn case(d: [u8; 512], s: &[u8]) {
-    check_vectors::label(s);
-    told(check_vectors::field(s, 0), &d, s);
-}
-
-fn makes(s: &[u8]) -> bool {
-    let k = check_vectors::field(s, 0);
-    (10 <= k) & (k < 14)
-}
-
-fn lines(input: &[u8]) {
+fn main(rt: HostRuntime) -> Result<()> {
+    let mut room = [0u8; 65536];
     let mut d = [7u8; 512];
-    let mut at = 0;
-    while at < input.len() {
-        let end = check_vectors::find(input, at, b'\n');
-        let s = &input[at..end];
-        if makes(s) {
-            d = made(s);
-        } else {
-            case(d, s);
+    for s in check_vectors::text(&mut room)?.lines() {
+        let s = Line(s);
+        match s.number(0) {
+            10 => d = records::made(s),
+            11 => d = blocks::made(s),
+            12 => d = blocks::spoilt(s),
+            13 => d = blocks::other_kind(),
+            _ => case(&rt, &d, s)?,
         }
-        at = end + 1;
     }
-}
-
-fn main() {
-    let mut input = io::large_buffer();
-    let n = io::read_full(0, &mut input);
-    lines(&input[0..n]);
+    Ok(())
 }

@@ -1,8 +1,5 @@
-use Rattle.std.proofs.Common.{◌-◌, ◌*◌, ◌≤◌}
+use Rattle.std.proofs.Common.{◌*◌, ◌≤◌}
 use Rattle.check_blocks.proofs.numbers.singles.Given as goal
 
 abbrev pub invariant-loop-p : goal.invariant-loop-p
 invariant-loop-p l = (l.n ≤ l.p * 65535) × (l.p ≤ 510)
-
-abbrev pub decreases-loop-p : goal.decreases-loop-p
-decreases-loop-p l = 510 - l.p
