@@ -1,7 +1,8 @@
 // The records of a tested archive as events: one by its number, those of a block, and one after the other by their places.
 #![tactic(auto)]
 
-ghost use Rattle.std.specs.Prelude.{◌≡◌, ◌+◌, ◌*◌, ◌<◌, length, get_or};
+ghost use Rattle.std.specs.Prelude.{◌≡◌, ◌+◌, ◌*◌, ◌-◌, ◌<◌, ◌≤◌, length, get_or, MatchOption};
+ghost use Rattle.std.specs.Iterator.{at_most};
 ghost use Rattle.record.specs.Record.{parse_record};
 ghost use Rattle.entries.specs.Entries.{record_of};
 ghost use Rattle.archive.specs.Archive.{block_of, blocks, records as records_of, record_at};
@@ -83,6 +84,45 @@ pub fn next_place(p: Place) -> Place
         number,
         block: p.block,
         at: p.at + 1,
+    }
+}
+
+// The places of the records of an archive, one after the other.
+#[derive(Clone, Copy)]
+pub struct Places {
+    pub first: Place,
+    pub end: usize,
+}
+
+impl Places {
+    // Those of all records.
+    pub fn of(archive: Archive) -> Places
+        ensures { (result.first.number ≡ 0) × (result.end ≡ records_of archive.entry.bytes.now) }
+    {
+        Places {
+            first: first_place(),
+            end: archive.records(),
+        }
+    }
+}
+
+impl Iterator for Places {
+    type Item = Place;
+
+    // The first place that was left, if it is before the end.
+    ghost next_gives = { λ s r t. (t.end ≡ s.end) × MatchOption r
+        (s.end ≤ s.first.number)
+        (λ p. (p.number ≡ s.first.number) × (p.number < s.end) × (t.first.number ≡ p.number + 1)) };
+
+    ghost remaining = { λ s. at_most (s.end - s.first.number) };
+
+    fn next(&mut self) -> Option<Place> {
+        let place = self.first;
+        if self.end <= place.number {
+            return None;
+        }
+        self.first = next_place(place);
+        Some(place)
     }
 }
 
