@@ -8,6 +8,8 @@ ghost use Rattle.rules.specs.Setup.{block_config};
 ghost use Rattle.link.specs.Image.{most_items, link_size, items_test, sized};
 ghost use Rattle.area.specs.Layout.{area_size, links_from, zeros_from, link_bytes, stations_test, links_test, parts_test, test};
 
+use codec::Number;
+
 // The area in bytes; where its stations and its links begin, and how many bytes stand behind the stations.
 pub const SIZE: usize = 65536;
 
@@ -17,34 +19,6 @@ pub const LINKS: usize = 888;
 
 pub const BEHIND_STATIONS: usize = 64648;
 
-// How many items link k can hold, by its limit in the header block.
-fn places_of(head: &[u8], k: usize) -> u32
-    requires { (length head.now ≡ 512) × (k < 64) × (well_made (block_config head.now) ≡ true) }
-    ensures { (result ≡ places (block_config head.now) (k / 8) (k % 8)) × (result ≤ most_items) }
-{
-    let limit = head[32 + k];
-    if limit == 0 {
-        return 0;
-    }
-    link::places(limit)
-}
-
-fn stations_fit(head: &[u8], a: &[u8]) -> bool
-    requires { (length head.now ≡ 512) × (length a.now ≡ area_size) }
-    ensures { result ≡ stations_test (block_config head.now) a.now }
-{
-    let mut i = 0;
-    while i < 8 {
-        let o = STATIONS + i * station::SIZE;
-        let e = o + station::SIZE;
-        if !station::test(head, i, &a[o..e]) {
-            return false;
-        }
-        i += 1;
-    }
-    true
-}
-
 // Zeros from one place to another. Most areas start at a multiple of 16, where 16 bytes are read fastest.
 fn blank_between(a: &[u8], from: usize, to: usize) -> bool
     requires { (from ≤ to) × (to ≤ length a.now) }
@@ -53,55 +27,87 @@ fn blank_between(a: &[u8], from: usize, to: usize) -> bool
     codec::zero_run(&a[from..to], 16 - from % 16)
 }
 
-// The items of link k, and the zeros before it from a place on.
-fn link_fits(head: &[u8], a: &[u8], n: u8, t: u16, k: usize, from: usize) -> bool
-    requires { (length head.now ≡ 512) × (length a.now ≡ area_size) × (well_made (block_config head.now) ≡ true) × (k < 64) × (from ≤ links_from + k * link_size) }
-    ensures { result ≡ (items_test (places (block_config head.now) (k / 8) (k % 8)) (sized n t) (link_bytes a.now k) && all_zero (take (links_from + k * link_size - from) (drop from a.now))) }
-{
-    let o = LINKS + k * link::SIZE;
-    let e = o + link::SIZE;
-    if !link::items_fit(places_of(head, k), n, t, &a[o..e]) {
-        return false;
-    }
-    blank_between(a, from, o)
+// An area with a header block that is well made, and that block.
+#[derive(Clone, Copy)]
+struct Area<'a> {
+    head: &'a [u8],
+    area: &'a [u8],
+    ghost block: { length head.now ≡ 512 },
+    ghost long: { length area.now ≡ area_size },
+    ghost made: { well_made (block_config head.now) ≡ true },
 }
 
-// The links, and the zeros behind the last. Between the items of one and those of the next that has some is one run of
-// zeros, as no count in it is another number; the last reaches to the end.
-fn links_fit(head: &[u8], a: &[u8]) -> bool
-    requires { (length head.now ≡ 512) × (length a.now ≡ area_size) × (well_made (block_config head.now) ≡ true) }
-    ensures { result ≡ (links_test (block_config head.now) a.now && all_zero (drop zeros_from a.now)) }
-{
-    let n = head[1];
-    let t = codec::get16(head, 2);
-    let mut from = LINKS;
-    let mut k = 0;
-    while k < 64 {
-        let o = LINKS + k * link::SIZE;
-        let b = a[o];
-        if b != 0 {
-            if !link_fits(head, a, n, t, k, from) {
+impl<'a> Area<'a> {
+    // How many items link k can hold, by its limit in the header block.
+    fn places_of(self, k: usize) -> u32
+        requires { k < 64 }
+        ensures { (result ≡ places (block_config self.entry.head.now) (k / 8) (k % 8)) × (result ≤ most_items) }
+    {
+        let limit = self.head[32 + k];
+        if limit == 0 {
+            return 0;
+        }
+        link::places(limit)
+    }
+
+    fn stations_fit(self) -> bool
+        ensures { result ≡ stations_test (block_config self.entry.head.now) self.entry.area.now }
+    {
+        for i in 0..8 {
+            let o = STATIONS + i * station::SIZE;
+            let e = o + station::SIZE;
+            if !station::test(self.head, i, &self.area[o..e]) {
                 return false;
             }
-            from = o + (1 + (b as usize) * link::ITEM_SIZE);
         }
-        k += 1;
+        true
     }
-    blank_between(a, from, SIZE)
-}
 
-// The parts behind a header block that is well made.
-fn parts_fit(head: &[u8], a: &[u8]) -> bool
-    requires { (length head.now ≡ 512) × (length a.now ≡ area_size) × (well_made (block_config head.now) ≡ true) }
-    ensures { result ≡ parts_test (block_config head.now) a.now }
-{
-    if !rules::setup_fits(header::load(head), header::load_limits(head)) {
-        return false;
+    // The items of link k, and the zeros before it from a place on.
+    fn link_fits(self, n: u8, t: u16, k: usize, from: usize) -> bool
+        requires { (k < 64) × (from ≤ links_from + k * link_size) }
+        ensures { result ≡ (items_test (places (block_config self.entry.head.now) (k / 8) (k % 8)) (sized n t) (link_bytes self.entry.area.now k) && all_zero (take (links_from + k * link_size - from) (drop from self.entry.area.now))) }
+    {
+        let o = LINKS + k * link::SIZE;
+        let e = o + link::SIZE;
+        if !link::items_fit(self.places_of(k), n, t, &self.area[o..e]) {
+            return false;
+        }
+        blank_between(self.area, from, o)
     }
-    if !stations_fit(head, a) {
-        return false;
+
+    // The links, and the zeros behind the last. Between the items of one and those of the next that has some is one run of
+    // zeros, as no count in it is another number; the last reaches to the end.
+    fn links_fit(self) -> bool
+        ensures { result ≡ (links_test (block_config self.entry.head.now) self.entry.area.now && all_zero (drop zeros_from self.entry.area.now)) }
+    {
+        let n = self.head[1];
+        let t = u16::get(self.head, 2);
+        let mut from = LINKS;
+        for k in 0..64 {
+            let o = LINKS + k * link::SIZE;
+            let b = self.area[o];
+            if b != 0 {
+                if !self.link_fits(n, t, k, from) {
+                    return false;
+                }
+                from = o + (1 + usize::from(b) * link::ITEM_SIZE);
+            }
+        }
+        blank_between(self.area, from, SIZE)
     }
-    links_fit(head, a)
+
+    fn fit(self) -> bool
+        ensures { result ≡ parts_test (block_config self.entry.head.now) self.entry.area.now }
+    {
+        if !rules::setup_fits(header::load(self.head), header::load_limits(self.head)) {
+            return false;
+        }
+        if !self.stations_fit() {
+            return false;
+        }
+        self.links_fit()
+    }
 }
 
 // The area is the image of a well-formed state.
@@ -115,5 +121,5 @@ pub fn well_formed(a: &[u8]) -> bool
     if !header::well_made(head) {
         return false;
     }
-    parts_fit(head, a)
+    Area { head, area: a }.fit()
 }

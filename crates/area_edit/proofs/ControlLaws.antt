@@ -2,7 +2,7 @@
 use Prim.Native.Nat.{ℕ, ◌+◌, ◌*◌, ◌≤◌, ◌<◌}
 use mathlib.Core.Path.{◌≡◌, refl, ◌∙◌, ap}
 use mathlib.Core.List.{List, [], ◌∷◌, ◌++◌}
-use mathlib.Core.Bool.{Bool, true, false, not, cond, ◌||◌}
+use mathlib.Core.Bool.{Bool, true, false, not}
 use native.Mathlib.Omega.{arith}
 use native.Mathlib.Numerals.{add-one}
 use lib.Dec.{eqb}
@@ -11,12 +11,10 @@ use borrow.Author.Tests.{eq-eqb, ne_eqb}
 use Rattle.reset.specs.Reach.{limit, linked}
 use Rattle.reset.specs.Config.{Config, neighbours}
 use Rattle.reset.specs.Clock.{vector}
-use Rattle.reset.specs.State.{Item, reset_req, reset_done, State, link_at, put_on, put_linked, put_first, put_on_all}
+use Rattle.reset.specs.State.{Item, State, link_at, put_on, put_linked, put_first, put_on_all}
 use Rattle.reset.proofs.Views.{link-first_past, link-put_all, link-put_all_far}
-use Rattle.link.specs.declared.Item.{Item as CodeItem}
-use Rattle.link.specs.Image.{Queue, item_of as item_as, item_view}
+use Rattle.link.specs.Image.{Queue}
 use Rattle.reset_rules.specs.Turn.{put_items}
-use Rattle.reset_rules.specs.Slots.{control_of}
 use Rattle.area.specs.Layout.{image, link_bytes}
 use Rattle.area_edit.specs.Room.{Roomy}
 use Rattle.area_edit.proofs.PartLaws.{link-held}
@@ -66,28 +64,6 @@ module _ (c : Config) (s : State vector) (i : ℕ) (x : Item vector) where
 pub items-grow : (c : Config) (s : State vector) (i j : ℕ) (q : Queue) → j < 8 → length (link_at (put_items c s i q) i j) ≤ length (link_at s i j) + length q
 items-grow c s i j [] l = omega arith
 items-grow c s i j (x ∷ q) l = omega (arith, items-grow c (put_on_all c s i x) i j q l, all_grows c s i x j l)
-
--- ---- control items by number
-some : (p q : Bool) (m : Item vector) → (p || q) ≡ true → cond p (reset_req ∷ []) (cond q (reset_done ∷ []) []) ≡ cond p reset_req (cond q reset_done m) ∷ []
-some true q m h = refl
-some false true m h = refl
-some false false m h = let z : ◌≡◌ {A = ℕ} 0 1 = cc in absurd (omega arith)
-
-none : (p q : Bool) → (p || q) ≡ false → ◌≡◌ {A = Queue} (cond p (reset_req ∷ []) (cond q (reset_done ∷ []) [])) []
-none false false h = refl
-none true q h = let z : ◌≡◌ {A = ℕ} 0 1 = cc in absurd (omega arith)
-none false true h = let z : ◌≡◌ {A = ℕ} 0 1 = cc in absurd (omega arith)
-
--- numbers 2 and 3 are an item, that of the code's struct; others are none
-pub items_one : (k : ℕ) (x : CodeItem) → (eqb k 2 || eqb k 3) ≡ true → x.kind ≡ k → control_of k ≡ item_view x ∷ []
-unfolding item_as
-items_one k x h e = rw e (some (eqb k 2) (eqb k 3) _ h)
-
-pub items_some : (k : ℕ) → (eqb k 2 || eqb k 3) ≡ true → length (control_of k) ≡ 1
-items_some k h = ap length (some (eqb k 2) (eqb k 3) reset_req h)
-
-pub items_none : (k : ℕ) → (eqb k 2 || eqb k 3) ≡ false → control_of k ≡ []
-items_none k h = none (eqb k 2) (eqb k 3) h
 
 -- ---- room
 -- room for more is room for fewer

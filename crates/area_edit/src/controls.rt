@@ -9,18 +9,7 @@ ghost use Rattle.reset_rules.specs.Slots.{control_of};
 ghost use Rattle.area.specs.Layout.{area_size, image, link_bytes};
 ghost use Rattle.area_edit.specs.Room.{Roomy};
 
-use link::Item;
-
-// A control item.
-fn control(kind: u8) -> Item
-    ensures { (result.kind ≡ kind) × (result.register ≡ 0) }
-{
-    Item {
-        kind,
-        register: 0,
-        counts: [0u16; 8],
-    }
-}
+use link::{Control, Item};
 
 // An item on the link from i to j, where there is one.
 fn put_linked(area: &mut [u8], row: [u8; 8], i: usize, j: usize, x: Item)
@@ -39,25 +28,29 @@ fn put_all(area: &mut [u8], limits: [[u8; 8]; 8], i: usize, x: Item)
     ensures { (c : Config) (s : State vector) → c.limits ≡ limits → area.old ≡ image c s → area.new ≡ image c (put_on_all c s i (item_view x)) }
 {
     let row = limits[i];
-    let mut j = 0;
-    while j < 8 {
+    for j in 0..8 {
         put_linked(area, row, i, j, x);
-        j += 1;
     }
 }
 
-// A control item by its number on every link out of i; none for another number.
-fn put_control(area: &mut [u8], limits: [[u8; 8]; 8], i: usize, kind: u8)
-    requires { (i < 8) × Roomy area.old limits i (length (control_of kind)) }
-    ensures { (c : Config) (s : State vector) → c.limits ≡ limits → area.old ≡ image c s → area.new ≡ image c (put_items c s i (control_of kind)) }
+// A control item on every link out of i, where there is one.
+fn put_control(area: &mut [u8], limits: [[u8; 8]; 8], i: usize, slot: Option<Control>)
+    requires { (i < 8) × Roomy area.old limits i (length (control_of slot)) }
+    ensures { (c : Config) (s : State vector) → c.limits ≡ limits → area.old ≡ image c s → area.new ≡ image c (put_items c s i (control_of slot)) }
 {
-    if (kind == link::RESET_REQ) | (kind == link::RESET_DONE) {
-        put_all(area, limits, i, control(kind));
+    if let Some(control) = slot {
+        put_all(area, limits, i, Item::Control(control));
     }
 }
 
 // Two control items, one after the other, on every link out of i.
-pub fn put_controls(area: &mut [u8], limits: [[u8; 8]; 8], i: usize, first: u8, second: u8)
+pub fn put_controls(
+    area: &mut [u8],
+    limits: [[u8; 8]; 8],
+    i: usize,
+    first: Option<Control>,
+    second: Option<Control>,
+)
     requires { (i < 8) × Roomy area.old limits i (length (control_of first ++ control_of second)) }
     ensures { (c : Config) (s : State vector) → c.limits ≡ limits → area.old ≡ image c s → area.new ≡ image c (put_items c s i (control_of first ++ control_of second)) }
 {

@@ -33,8 +33,7 @@ pub fn load_station(area: &[u8], i: usize) -> Station
     ensures { station_view result ≡ parse_station (station_bytes area.now i) }
 {
     let o = station_start(i);
-    let e = o + station::SIZE;
-    station::load(&area[o..e])
+    station::load(&area[o..o + station::SIZE])
 }
 
 pub fn put_station(area: &mut [u8], i: usize, x: Station)
@@ -42,8 +41,7 @@ pub fn put_station(area: &mut [u8], i: usize, x: Station)
     ensures { (c : Config) (s : State vector) → area.old ≡ image c s → area.new ≡ image c (set_station s i (station_view x)) }
 {
     let o = station_start(i);
-    let e = o + station::SIZE;
-    station::store(&mut area[o..e], x);
+    station::store(&mut area[o..o + station::SIZE], x);
 }
 
 // How many items the link from i to j holds.
@@ -60,8 +58,7 @@ pub fn first_at(area: &[u8], i: usize, j: usize) -> Item
     ensures { item_view result ≡ item_at (link_bytes area.now (i * 8 + j)) 0 }
 {
     let o = link_start(i, j);
-    let e = o + link::SIZE;
-    link::first(&area[o..e])
+    link::first(&area[o..o + link::SIZE])
 }
 
 // The first item of the link from i to j is taken off.
@@ -70,8 +67,7 @@ pub fn take_at(area: &mut [u8], i: usize, j: usize)
     ensures { (c : Config) (s : State vector) (x : NetworkItem vector) (q : List (NetworkItem vector)) → area.old ≡ image c s → link_at s i j ≡ x ∷ q → area.new ≡ image c (set_link s i j q) }
 {
     let o = link_start(i, j);
-    let e = o + link::SIZE;
-    link::pop(&mut area[o..e]);
+    link::pop(&mut area[o..o + link::SIZE]);
 }
 
 // An item is put on the link from i to j, behind what it holds.
@@ -80,6 +76,5 @@ pub fn push_at(area: &mut [u8], i: usize, j: usize, x: Item)
     ensures { (c : Config) (s : State vector) → area.old ≡ image c s → area.new ≡ image c (put_on s i j (item_view x)) }
 {
     let o = link_start(i, j);
-    let e = o + link::SIZE;
-    link::push(&mut area[o..e], x);
+    link::push(&mut area[o..o + link::SIZE], x);
 }

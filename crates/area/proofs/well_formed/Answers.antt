@@ -18,12 +18,16 @@ pub returns-then-not-well_made : goal.returns-then-not-well_made
 unfolding test config_at
 returns-then-not-well_made c = rw (eq-eqb _ 65536 c.if-a-ne-SIZE.false, sym c.well_made.ensures ∙ c.if-not-well_made.true)
 
-pub parts_fit-requires : goal.parts_fit-requires
-parts_fit-requires c =
+pub invariant_of-fit : goal.invariant_of-fit
+invariant_of-fit c =
     let a : List ℕ = c.args.a.now in
     let bytes : AreBytes a = λ i. omega (arith, c.type_inv.a i) in
-    (rw length-take (omega arith), omega arith, accepted-well_made (take 512 a) (bytes_take 512 a bytes) (sym c.well_made.ensures ∙ c.if-not-well_made.false))
+    record {
+      block = rw length-take (omega arith);
+      long = omega arith;
+      made = accepted-well_made (take 512 a) (bytes_take 512 a bytes) (sym c.well_made.ensures ∙ c.if-not-well_made.false);
+    }
 
 pub returns : goal.returns
 unfolding test config_at
-returns c = rw (eq-eqb _ 65536 c.if-a-ne-SIZE.false, sym c.well_made.ensures ∙ c.if-not-well_made.false) c.parts_fit.ensures
+returns c = rw (eq-eqb _ 65536 c.if-a-ne-SIZE.false, sym c.well_made.ensures ∙ c.if-not-well_made.false) c.fit.ensures

@@ -6,13 +6,13 @@ use Rattle.reset.specs.Config.{places}
 use Rattle.rules.specs.Setup.{block_config}
 use Rattle.link.specs.Image.{items_test, sized}
 use Rattle.area.specs.Layout.{link_bytes}
-use Rattle.area.proofs.link_fits.Goals as goal
-use Rattle.area.proofs.link_fits.Goals.{After-items_fit}
+use Rattle.area.proofs.Area.link_fits.Goals as goal
+use Rattle.area.proofs.Area.link_fits.Goals.{After-items_fit}
 
 -- the items of the part lent are those of link k
 tested : (c : goal.After-items_fit)
     → let s = c.args in
-    items_test (places (block_config s.head.now) (s.k / 8) (s.k % 8)) (sized s.n s.t) (link_bytes s.a.now s.k) ≡ c.items_fit.result
+    items_test (places (block_config s.self.head.now) (s.k / 8) (s.k % 8)) (sized s.n s.t) (link_bytes s.self.area.now s.k) ≡ c.items_fit.result
 unfolding link_bytes
 tested c =
     let s = c.args in

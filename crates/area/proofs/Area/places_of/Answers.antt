@@ -11,7 +11,7 @@ use Rattle.reset.specs.Reach.{limit, linked}
 use Rattle.reset.specs.Config.{neighbours, places, places_of, well_made}
 use Rattle.reset.proofs.ConfigLaws.{shape}
 use Rattle.rules.specs.Setup.{block_config}
-use Rattle.area.proofs.places_of.Goals as goal
+use Rattle.area.proofs.Area.places_of.Goals as goal
 
 -- limit k of the table
 limit_at_lem : (l : List ℕ) (k : ℕ) → k < 64 → limit (table_at 8 l 32) (k / 8) (k % 8) ≡ get_or l (32 + k) 0
@@ -27,12 +27,12 @@ pub returns-then-limit-eq0 : goal.returns-then-limit-eq0
 unfolding places neighbours linked
 returns-then-limit-eq0 c =
     let a = c.args in
-    (rw (limit_at_lem a.head.now a.k (omega arith), eq-eqb _ 0 c.if-limit-eq0.true), omega arith)
+    (rw (limit_at_lem a.self.head.now a.k (omega arith), eq-eqb _ 0 c.if-limit-eq0.true), omega arith)
 
 pub returns : goal.returns
 unfolding places neighbours linked
 returns c =
-    let l = c.args.head.now in
+    let l = c.args.self.head.now in
     let k = c.args.k in
     let e : c.places.result ≡ places_of (get_or l (32 + k) 0) = c.places.ensures.0 in
-    (rw (limit_at_lem l k (omega arith), ne_eqb _ 0 c.if-limit-eq0.false) e, omega (arith, small l k (omega arith) c.requires.2))
+    (rw (limit_at_lem l k (omega arith), ne_eqb _ 0 c.if-limit-eq0.false) e, omega (arith, small l k (omega arith) c.args.self.made))

@@ -2,11 +2,11 @@ use mathlib.Core.Path.{◌≡◌, ◌∙◌, sym}
 use Rattle.reset.specs.Config.{network_rules}
 use Rattle.rules.specs.Setup.{block_config}
 use Rattle.area.specs.Layout.{parts_test}
-use Rattle.area.proofs.parts_fit.Goals as goal
-use Rattle.area.proofs.parts_fit.Goals.{After-setup_fits}
+use Rattle.area.proofs.Area.fit.Goals as goal
+use Rattle.area.proofs.Area.fit.Goals.{After-setup_fits}
 
 -- the rules are tested on the header block's fields
-ruled : (c : goal.After-setup_fits) → network_rules (block_config c.args.head.now) ≡ c.setup_fits.result
+ruled : (c : goal.After-setup_fits) → network_rules (block_config c.args.self.head.now) ≡ c.setup_fits.result
 ruled c = sym (rw (c.load.ensures, c.load_limits.ensures) at c.setup_fits.ensures)
 
 pub returns-then-not-setup_fits : goal.returns-then-not-setup_fits
