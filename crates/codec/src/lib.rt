@@ -102,6 +102,7 @@ fn zeros_at<const N: usize>(s: &[u8], at: usize) -> bool
 
 // Every byte of a run, however long, is 0. The last line may be read twice, which spares a loop over single bytes. The
 // first is read for itself, so that the pieces can start at any `lead`: they are read fastest where the machine's lines do.
+// (Two strides, the second from where the first stops: iterators over chunks would need that place handed from one to the other.)
 pub fn zero_run(s: &[u8], lead: usize) -> bool
     requires { lead ≤ 32 }
     ensures { result ≡ all_zero s.now }

@@ -105,29 +105,3 @@ pub fn told(answer: Result<(), Refusal>) -> u8
         Err(refusal) => u8::from(refusal),
     }
 }
-
-pub const MALFORMED: u8 = 1;
-
-pub const ILL_FORMED_STATE: u8 = 2;
-
-pub const NETWORK_RULE: u8 = 3;
-
-pub const NO_SUCH_STATION: u8 = 4;
-
-pub const MODE_FORBIDS: u8 = 5;
-
-pub const USED_UP: u8 = 6;
-
-pub const EMPTY_LINK: u8 = 7;
-
-pub const NO_MORE_PHASES: u8 = 8;
-
-pub const DIFFERENT_PHASES: u8 = 10;
-
-pub const BUFFER_LENGTH: u8 = 11;
-
-pub const NO_SUCH_RECORD: u8 = 12;
-
-pub const ILL_KEPT: u8 = 13;
-
-pub const SHEET_TOO_LONG: u8 = 14;

@@ -1,5 +1,4 @@
-use Prim.Native.Nat.{ℕ, ◌<◌}
-use mathlib.Core.Path.{refl, ◌∙◌, sym}
+use mathlib.Core.Path.{◌∙◌, sym}
 use native.Mathlib.Omega.{arith}
 use Rattle.checksum.proofs.CheckLaws.{zeros-behind}
 use Rattle.checksum.proofs.weigh.Goals as goal

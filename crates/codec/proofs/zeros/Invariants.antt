@@ -1,4 +1,4 @@
-use Prim.Native.Nat.{◌-◌, ◌≤◌}
+use Prim.Native.Nat.{◌≤◌}
 use lib.ListN.{length, take}
 use Rattle.codec.specs.Every.{total}
 use Rattle.codec.proofs.EveryLaws.{Alike}

@@ -1,4 +1,4 @@
-use Prim.Native.Nat.{◌-◌, ◌≤◌}
+use Prim.Native.Nat.{◌≤◌}
 use Rattle.checksum.specs.Columns.{Columns}
 use Rattle.checksum.proofs.ColumnSums.fill.Given as goal
 
