@@ -18,8 +18,8 @@ use Rattle.record.specs.declared.Record.{Record}
 use Rattle.archive.specs.Archive.{archive_test, records}
 use Rattle.events.specs.Events.{event_at}
 use Rattle.concurrent.specs.Unordered.{is_unordered_verdict, concurrent, has_concurrent, is_unordered, unordered_count, list_answer, unordered_answer, Lists}
-use Rattle.archive.specs.declared.Counted.TheVariants.{Count}
-use Rattle.archive.specs.declared.Counted.TheVariants as listed
+use Rattle.std.specs.Prelude.{Ok, Err}
+use Rattle.refusals.specs.declared.Refusal.TheVariants.{Malformed, BufferLength, NoSuchRecord}
 
 -- ---- two events
 unordered_verdict : (v : Verdict) → is_unordered_verdict v ≡ true → v ≡ Unordered
@@ -108,13 +108,13 @@ pub never_itself : (a : List ℕ) (r : ℕ) (l : List ℕ) → Lists a r l → M
 never_itself a r l w m = true≢false (sym ((w.members r).0 m) ∙ unordered_irreflexive a r)
 
 -- an answer that counts is of a list that fits
-pub count_fits_lem : (a : List ℕ) (r places n : ℕ) → Count n ≡ unordered_answer a r places → n ≤ places
+pub count_fits_lem : (a : List ℕ) (r places n : ℕ) → Ok n ≡ unordered_answer a r places → n ≤ places
 unfolding unordered_answer list_answer
 count_fits_lem a r places n e = go (archive_test a) (ltb r (records a)) (ltb places (unordered_count a r)) refl e
   where
     go : (t u v : Bool) → ltb places (unordered_count a r) ≡ v
-        → Count n ≡ cond t (cond u (cond v (listed.Refused 11) (Count (unordered_count a r))) (listed.Refused 12)) (listed.Refused 1) → n ≤ places
-    go false u v h q = let z : ◌≡◌ {A = ℕ} 0 1 = cc in absurd (omega arith)
-    go true false v h q = let z : ◌≡◌ {A = ℕ} 0 1 = cc in absurd (omega arith)
-    go true true true h q = let z : ◌≡◌ {A = ℕ} 0 1 = cc in absurd (omega arith)
+        → Ok n ≡ cond t (cond u (cond v (Err BufferLength) (Ok (unordered_count a r))) (Err NoSuchRecord)) (Err Malformed) → n ≤ places
+    go false u v h q = absurd (cc)
+    go true false v h q = absurd (cc)
+    go true true true h q = absurd (cc)
     go true true false h q = let z : n ≡ unordered_count a r = cc in omega (arith, ltb-false places (unordered_count a r) h)

@@ -1,5 +1,5 @@
 -- The records of an archive that are unordered (concurrent) with one of them (document 01, "Archive blocks"), in the order of document 02, CR 4. Assumes nothing.
-use Rattle.std.specs.Prelude.{ℕ, ◌+◌, ◌<◌, ◌≡◌, ◌↔◌, ◌⊎◌, Bool, true, false, ◌&&◌, cond, eqb, ltb, length, get_or, drop}
+use Rattle.std.specs.Prelude.{ℕ, ◌+◌, ◌<◌, ◌≡◌, ◌↔◌, ◌⊎◌, Bool, true, false, ◌&&◌, cond, eqb, ltb, length, get_or, drop, Result, Ok, Err}
 use mathlib.Core.List.{List, ◌++◌, Memᴰ}
 use Rattle.codec.specs.Every.{count_below, greatest}
 use Rattle.lists.specs.Lists.{passing, joined, Sorted}
@@ -9,8 +9,8 @@ use Rattle.clock.specs.declared.Verdict.TheVariants.{Before, After, Same, Unorde
 use Rattle.record.specs.declared.Record.{Record}
 use Rattle.archive.specs.Archive.{archive_test, records}
 use Rattle.events.specs.Events.{event_at, station_at, own_at}
-use Rattle.archive.specs.declared.Counted.{Counted}
-use Rattle.archive.specs.declared.Counted.TheVariants.{Count, Refused}
+use Rattle.refusals.specs.declared.Refusal.{Refusal}
+use Rattle.refusals.specs.declared.Refusal.TheVariants.{Malformed, BufferLength, NoSuchRecord}
 
 -- ---- which records
 abbrev pub is_unordered_verdict : Verdict → Bool
@@ -57,20 +57,20 @@ unordered_list a r = concurrent_list a (event_at a r)
 
 -- ---- the call
 -- of a tested archive: a list of too few places is 11; else how many there are
-unfoldable pub list_answer : List ℕ → Record → ℕ → Counted
-list_answer a x places = cond (ltb places (concurrent_count a x)) (Refused 11) (Count (concurrent_count a x))
+unfoldable pub list_answer : List ℕ → Record → ℕ → Result ℕ Refusal
+list_answer a x places = cond (ltb places (concurrent_count a x)) (Err BufferLength) (Ok (concurrent_count a x))
 
 -- bytes that are no archive are 1, no record r is 12
-unfoldable pub unordered_answer : List ℕ → ℕ → ℕ → Counted
-unordered_answer a r places = cond (archive_test a) (cond (ltb r (records a)) (list_answer a (event_at a r) places) (Refused 12)) (Refused 1)
+unfoldable pub unordered_answer : List ℕ → ℕ → ℕ → Result ℕ Refusal
+unordered_answer a r places = cond (archive_test a) (cond (ltb r (records a)) (list_answer a (event_at a r) places) (Err NoSuchRecord)) (Err Malformed)
 
 -- a lent list after an answer: the numbers in its first places, the others left; as it was after a refusal
-abbrev pub list_after : List ℕ → Record → List ℕ → Counted → List ℕ
-list_after a x before (Count n) = concurrent_list a x ++ drop n before
-list_after a x before (Refused k) = before
+abbrev pub list_after : List ℕ → Record → List ℕ → Result ℕ Refusal → List ℕ
+list_after a x before (Ok n) = concurrent_list a x ++ drop n before
+list_after a x before (Err k) = before
 
 -- the whole promise
-pub record UnorderedList (a : List ℕ) (r : ℕ) (before after : List ℕ) (answer : Counted) : Type 0 where
+pub record UnorderedList (a : List ℕ) (r : ℕ) (before after : List ℕ) (answer : Result ℕ Refusal) : Type 0 where
   pub answers : answer ≡ unordered_answer a r (length before)
   pub leaves : after ≡ list_after a (event_at a r) before (unordered_answer a r (length before))
 
