@@ -4,22 +4,22 @@
 ghost use Rattle.std.specs.Prelude.{◌≡◌, true, false, ◌≤◌, ◌+◌, ◌*◌, length, IfOk, IfErr};
 ghost use Rattle.codec.specs.Num.{AreBytes};
 ghost use Rattle.header.specs.Header.{parse_header, table_at};
-ghost use Rattle.front_table.specs.Fronts.{Fronts};
 ghost use Rattle.archive.specs.Archive.{blocks_fit, archive_test, records as records_of, record_at, count_records, find_record, found_record};
 ghost use Rattle.refusals.specs.Numbers.{told};
 ghost use Rattle.refusals.specs.declared.Refusal.TheVariants.{Malformed};
 
+use front_table::Allowed;
 use refusals::Refusal;
 
 // The n entries blocks behind the header fit.
-fn blocks_fit(a: &[u8], head: &[u8], known: &[u32; 256], n: usize) -> bool
-    requires { (length head.now ≡ 512) × ((parse_header head.now).n ≤ 8) × Fronts (parse_header head.now).n (table_at 8 head.now 32) known.now × ((n + 1) * 512 ≤ length a.now) }
-    ensures { result ≡ blocks_fit (parse_header head.now) (table_at 8 head.now 32) a.now n }
+fn blocks_fit(a: &[u8], allowed: &Allowed, n: usize) -> bool
+    requires { (n + 1) * 512 ≤ length a.now }
+    ensures { result ≡ blocks_fit (parse_header allowed.now.head.now) (table_at 8 allowed.now.head.now 32) a.now n }
 {
     for b in 0..n {
         let o = (b + 1) * checksum::BLOCK;
         let block = &a[o..o + checksum::BLOCK];
-        if !block_test::block_fits(head, known, b + 1, b + 1 == n, block) {
+        if !block_test::block_fits(allowed, b + 1, b + 1 == n, block) {
             return false;
         }
     }
@@ -45,8 +45,7 @@ pub fn test(a: &[u8]) -> bool
     if n == 0 {
         return true;
     }
-    let known = front_table::fronts(head, head[1]);
-    blocks_fit(a, head, &known, n)
+    blocks_fit(a, &Allowed::by(head), n)
 }
 
 // The 32 bytes of record k, as a part of the archive; an empty part where the archive has no such block.

@@ -12,6 +12,9 @@ use lib.Seq.{get_or-set_same, get_or-set_other}
 use borrow.Author.Tests.{eqb-true, le-leb, lt-leb, eq-eqb, ne_eqb}
 use Rattle.codec.specs.Every.{every}
 use Rattle.codec.proofs.EveryLaws.{bool_iff, every_at}
+use Rattle.record.specs.Record.{kind_byte}
+use Rattle.record.specs.declared.Kind.{Kind}
+use Rattle.record.specs.declared.Kind.TheVariants.{Own, Sent, Received}
 use Rattle.front_table.specs.Fronts.{may_stand, place_of, front_of, Row}
 
 -- no bit differs in equal numbers alone
@@ -19,6 +22,12 @@ pub xor_zero : (a b : ℕ) → eqb (bit_xor a b) 0 ≡ eqb a b
 xor_zero a b =
     bool_iff _ _ (λ (e : eqb (bit_xor a b) 0 ≡ true). let z : bit_xor a b ≡ 0 = eqb-true _ _ e in eq-eqb a b (omega (arith, xor_add_and a b, and_le_l a b, and_le_r a b)))
     (λ (e : eqb a b ≡ true). let q : a ≡ b = eqb-true _ _ e in rw (q, xor_self b))
+
+-- there are three kinds
+pub kind-high : (k : Kind) → kind_byte k ≤ 3
+kind-high Own = omega arith
+kind-high Sent = omega arith
+kind-high Received = omega arith
 
 -- ---- where the right ones are looked up
 own_places : every 8 (λ (s : ℕ). eqb (place_of (16711681 + 256 * s)) (56 + s)) ≡ true

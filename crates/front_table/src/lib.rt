@@ -1,54 +1,80 @@
 // The table of first bytes: what the first four bytes of a record may be, by the header of its archive.
 #![tactic(auto)]
 
-ghost use Rattle.std.specs.Prelude.{◌≡◌, cond, ◌≤◌, ◌<◌, ◌+◌, ◌*◌, eqb, length, get_or};
-ghost use Rattle.header.specs.Header.{table_at};
+ghost use Rattle.std.specs.Prelude.{◌≡◌, true, ◌≤◌, ◌<◌, ◌+◌, ◌*◌, eqb, length, get_or};
+ghost use Rattle.record.specs.Record.{kind_byte};
+ghost use Rattle.header.specs.Header.{parse_header, table_at, well_made_header};
 ghost use Rattle.front_table.specs.Fronts.{limit_of, Row, Fronts, place_of};
+
+use record::Kind;
 
 // What stands where the header allows no record: a number that is looked up elsewhere.
 const ELSEWHERE: usize = 458752;
 
-// The limit of the link that a sent (2) or received (3) record of station s and peer p names.
-fn limit(head: &[u8], kind: usize, s: usize, p: usize) -> u8
+// The limit of the link that a sent or received record of station s and peer p names.
+#[tactic(auto, using(header::proofs::Laws::table_at_lem), unfolding(crate::specs::Fronts::limit_of))]
+fn limit(head: &[u8], kind: Kind, s: usize, p: usize) -> u8
     requires { (length head.now ≡ 512) × (s < 8) × (p < 8) }
-    ensures { result ≡ limit_of (table_at 8 head.now 32) kind s p }
+    ensures { result ≡ limit_of (table_at 8 head.now 32) (kind_byte kind) s p }
 {
-    if kind == 2 {
-        return head[32 + (s * 8 + p)];
+    match kind {
+        Kind::Sent => head[32 + (s * 8 + p)],
+        Kind::Own | Kind::Received => head[32 + (p * 8 + s)],
     }
-    head[32 + (p * 8 + s)]
 }
 
 // The records of a kind with peer p, one for each station.
-fn fill(r: &mut [u32; 256], head: &[u8], top: usize, kind: usize, p: usize)
-    requires { (length r.old ≡ 256) × (length head.now ≡ 512) × (2 ≤ kind) × (kind ≤ 3) × (p < 8) }
-    ensures { Row top (table_at 8 head.now 32) (kind * 8 + p) 8 r.old r.new }
+fn fill(r: &mut [u32; 256], head: &[u8], kind: Kind, p: usize)
+    requires { (length r.old ≡ 256) × (length head.now ≡ 512) × (2 ≤ kind_byte kind) × (p < 8) }
+    ensures { Row (parse_header head.now).n (table_at 8 head.now 32) (kind_byte kind * 8 + p) 8 r.old r.new }
 {
+    let number = usize::from(u8::from(kind));
+    let top = usize::from(head[1]);
     for s in 0..8 {
         let stands = (p < top) & (s != p) & (0 < limit(head, kind, s, p));
         let front = if stands {
-            kind + (256 * s + 65536 * p)
+            number + (256 * s + 65536 * p)
         } else {
             ELSEWHERE
         };
-        r[(kind * 8 + p) * 8 + s] = front as u32;
+        r[(number * 8 + p) * 8 + s] = front as u32;
     }
 }
 
 // The first four bytes of the records that a header allows, as numbers, each in the place where it is looked up; elsewhere
 // a number that is looked up in another place. A station that the header lacks has no count, which shuts its records out.
-pub fn fronts(head: &[u8], n: u8) -> [u32; 256]
+fn fronts(head: &[u8]) -> [u32; 256]
     requires { length head.now ≡ 512 }
-    ensures { Fronts n (table_at 8 head.now 32) result }
+    ensures { Fronts (parse_header head.now).n (table_at 8 head.now 32) result }
 {
-    let top = usize::from(n);
     let mut r = [ELSEWHERE as u32; 256];
     for p in 0..8 {
         r[56 + p] = (16711681 + 256 * p) as u32;
-        fill(&mut r, head, top, 2, p);
-        fill(&mut r, head, top, 3, p);
+        fill(&mut r, head, Kind::Sent, p);
+        fill(&mut r, head, Kind::Received, p);
     }
     r
+}
+
+// A tested header block, and the first bytes of the records that it allows.
+#[derive(Clone, Copy)]
+pub struct Allowed<'a> {
+    pub head: &'a [u8],
+    pub fronts: [u32; 256],
+    ghost tested: { well_made_header head.now ≡ true },
+    ghost stand: { Fronts (parse_header head.now).n (table_at 8 head.now 32) fronts },
+}
+
+impl<'a> Allowed<'a> {
+    pub fn by(head: &'a [u8]) -> Allowed<'a>
+        requires { well_made_header head.now ≡ true }
+        ensures { result.head.now ≡ head.now }
+    {
+        Allowed {
+            head,
+            fronts: fronts(head),
+        }
+    }
 }
 
 // Where a record's first four bytes are looked up.

@@ -14,8 +14,7 @@ loop-b-init c = (omega arith, every_none _)
 
 pub block_fits-requires : goal.block_fits-requires
 block_fits-requires c =
-    let p = c.requires in
-    (p.0, p.1, p.2, simp (length-take, length-drop) (omega arith))
+    simp (length-take, length-drop) (omega arith)
 
 pub returns-then-not-block_fits : goal.returns-then-not-block_fits
 unfolding blocks_fit block_of
@@ -23,8 +22,8 @@ returns-then-not-block_fits c =
     let k = c.loop-b.b in
     let g = c.args in
     let e : (k + 1) * 512 + 512 - (k + 1) * 512 ≡ 512 = omega arith in
-    let q : block_fits (parse_header g.head.now) (table_at 8 g.head.now 32) (k + 1) (eqb (k + 1) g.n) (block_of g.a.now k) ≡ c.block_fits.result = sym (rw e at c.block_fits.ensures) in
-    sym (every_fails g.n (λ (m : ℕ). block_fits (parse_header g.head.now) (table_at 8 g.head.now 32) (m + 1) (eqb (m + 1) g.n) (block_of g.a.now m)) k (omega arith) (q ∙ c.if-not-block_fits.true))
+    let q : block_fits (parse_header g.allowed.now.head.now) (table_at 8 g.allowed.now.head.now 32) (k + 1) (eqb (k + 1) g.n) (block_of g.a.now k) ≡ c.block_fits.result = sym (rw e at c.block_fits.ensures) in
+    sym (every_fails g.n (λ (m : ℕ). block_fits (parse_header g.allowed.now.head.now) (table_at 8 g.allowed.now.head.now 32) (m + 1) (eqb (m + 1) g.n) (block_of g.a.now m)) k (omega arith) (q ∙ c.if-not-block_fits.true))
 
 pub loop-b-preserved : goal.loop-b-preserved
 unfolding block_of
@@ -32,7 +31,7 @@ loop-b-preserved c =
     let k = c.loop-b.b in
     let g = c.args in
     let e : (k + 1) * 512 + 512 - (k + 1) * 512 ≡ 512 = omega arith in
-    let q : block_fits (parse_header g.head.now) (table_at 8 g.head.now 32) (k + 1) (eqb (k + 1) g.n) (block_of g.a.now k) ≡ c.block_fits.result = sym (rw e at c.block_fits.ensures) in
+    let q : block_fits (parse_header g.allowed.now.head.now) (table_at 8 g.allowed.now.head.now 32) (k + 1) (eqb (k + 1) g.n) (block_of g.a.now k) ≡ c.block_fits.result = sym (rw e at c.block_fits.ensures) in
     (omega arith, every_more k _ c.loop-b.invariant.1 (q ∙ c.if-not-block_fits.false))
 
 pub returns : goal.returns

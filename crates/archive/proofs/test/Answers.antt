@@ -1,12 +1,8 @@
 use mathlib.Core.Path.{◌∙◌, sym}
-use native.Mathlib.Omega.{arith}
 use borrow.Author.Tests.{eq-eqb, ne_eqb}
-use lib.ListN.{take}
 use Rattle.codec.proofs.EveryLaws.{every_none}
 use Rattle.archive.specs.Archive.{blocks, blocks_fit, archive_test}
-use Rattle.header.proofs.Laws.{header-small}
 use Rattle.archive.proofs.Laws.{short-refused}
-use borrow.Author.Rules.{rules}
 use Rattle.archive.proofs.test.Goals as goal
 
 pub returns-then-a-ne0 : goal.returns-then-a-ne0
@@ -27,14 +23,8 @@ returns-then-n-eq0 c =
     let h = sym c.well_made.ensures ∙ c.if-not-well_made.false in
     rw (eq-eqb _ 0 c.if-a-ne0.false, h, c.if-n-eq0.true) (sym (every_none _))
 
-pub blocks_fit-requires : goal.blocks_fit-requires
-blocks_fit-requires c =
-    let a = c.args.a.now in
-    let n = header-small (take 512 a) (sym c.well_made.ensures ∙ c.if-not-well_made.false) in
-    (search rules, n, c.fronts-known.ensures, omega arith)
-
 pub returns : goal.returns
 unfolding archive_test blocks
 returns c =
     let h = sym c.well_made.ensures ∙ c.if-not-well_made.false in
-    rw (eq-eqb _ 0 c.if-a-ne0.false, h) c.blocks_fit.ensures
+    rw (eq-eqb _ 0 c.if-a-ne0.false, h) (rw c.by.ensures at c.blocks_fit.ensures)

@@ -1,6 +1,0 @@
-use Prim.Native.Nat.{◌≤◌}
-use Rattle.block_test.specs.Sweep.{Looked}
-use Rattle.block_test.proofs.look.Given as goal
-
-abbrev pub invariant-loop-k : goal.invariant-loop-k
-invariant-loop-k l = (l.k ≤ l.end) × Looked l.known l.block l.k l.wrong l.least l.spare l.phases
