@@ -2,7 +2,11 @@
 use Prim.Native.Nat.{ℕ, zero, suc, ◌+◌, ◌*◌, ◌/◌, ◌%◌, ◌-◌, ◌<◌}
 use mathlib.Core.Path.{◌≡◌, refl, ◌∙◌, sym, ap}
 use mathlib.Core.List.{List, [], ◌++◌, append_assoc, append-nil}
-use mathlib.Core.Bool.{true}
+use mathlib.Core.Bool.{Bool, true, false, cond}
+use Rattle.std.specs.Prelude.{Result, Ok, Err}
+use Rattle.refusals.specs.declared.Refusal.{Refusal}
+use Rattle.refusals.specs.declared.Refusal.TheVariants.{Malformed}
+use Rattle.header.specs.declared.Header.{Header}
 use native.Mathlib.Omega.{arith}
 use native.Mathlib.Nat.{suc-mul}
 use native.Mathlib.Numerals.{add-one}
@@ -14,7 +18,7 @@ use Rattle.codec.specs.Every.{blank}
 use Rattle.codec.proofs.BlankLaws.{blank-append, blank-length, blank_none}
 use Rattle.codec.proofs.SpliceLaws.{lent, splice_more, first, next, written}
 use Rattle.codec.proofs.Stride.{rows_append, rows-length, upto-length, upto_same}
-use Rattle.header.specs.Header.{table_at, image_header, well_made_header}
+use Rattle.header.specs.Header.{table_at, image_header, parse_header, read_header, well_made_header}
 use Rattle.header.proofs.Laws as header
 use Rattle.reset.specs.Config.{Config, neighbours}
 use Rattle.reset.specs.Clock.{vector}
@@ -87,3 +91,20 @@ all_written l a d e f m b h n t p q r =
     let w2 = next (initial_bytes m 8) e 376 w1 (omega arith) (fresh-length m 8) q in
     let w3 = next (blank 64648) f 64648 w2 (omega arith) (blank-length 64648) r in
     written w3 n ∙ ap (λ (x : List (List ℕ)). (l ++ initial_bytes x 8) ++ blank 64648) t ∙ sym (initial-image l b h)
+
+-- ---- the block read
+pub read_parts : (l : List ℕ) (h : Header) → Ok h ≡ read_header l → (well_made_header l ≡ true) × (h ≡ parse_header l)
+unfolding read_header
+read_parts l h = go (well_made_header l)
+  where
+    go : (t : Bool) → ◌≡◌ {A = Result Header Refusal} (Ok h) (cond t (Ok (parse_header l)) (Err Malformed)) → (t ≡ true) × (h ≡ parse_header l)
+    go true e = (refl, cc)
+    go false e = absurd (cc)
+
+pub read_none : (l : List ℕ) (x : Refusal) → Err x ≡ read_header l → (well_made_header l ≡ false) × (x ≡ Malformed)
+unfolding read_header
+read_none l x = go (well_made_header l)
+  where
+    go : (t : Bool) → ◌≡◌ {A = Result Header Refusal} (Err x) (cond t (Ok (parse_header l)) (Err Malformed)) → (t ≡ false) × (x ≡ Malformed)
+    go true e = absurd (cc)
+    go false e = (refl, cc)

@@ -2,15 +2,17 @@
 #![tactic(auto)]
 
 ghost use Rattle.std.specs.Prelude.{◌≡◌, ◌<◌, not, eqb, length, get_or};
+ghost use Rattle.refusals.specs.Numbers.{told};
 ghost use Rattle.codec.specs.Rows.{upto};
 ghost use Rattle.codec.specs.Splice.{splice};
 ghost use Rattle.station.specs.View.{station_view};
 ghost use Rattle.area_calls.specs.Calls.{setup_on};
 ghost use Rattle.setup.specs.Limits.{initial_of, initial_bytes};
 
+use refusals::Refusal;
 use station::{Mode, Station};
 
-// The neighbours of a station, by its row of limits.
+// The neighbours of a station, by its row of limits. Written out: a loop needs an invariant that is longer.
 fn neighbours(row: [u8; 8]) -> [bool; 8]
     ensures { result ≡ upto 8 (λ j. not (eqb (get_or row j 0) 0)) }
 {
@@ -31,12 +33,11 @@ fn initial_station(limits: [[u8; 8]; 8], i: usize) -> Station
     requires { i < 8 }
     ensures { station_view result ≡ initial_of limits i }
 {
-    let row = limits[i];
     Station {
         counts: [0u16; 8],
         sent: [0u8; 8],
         reqs: [false; 8],
-        dones: neighbours(row),
+        dones: neighbours(limits[i]),
         phase: 0,
         own: 0,
         mode: Mode::Normal,
@@ -47,32 +48,27 @@ fn put_stations(area: &mut [u8], limits: [[u8; 8]; 8])
     requires { length area.old ≡ 65536 }
     ensures { area.new ≡ splice area.old 512 (initial_bytes limits 8) }
 {
-    let mut i = 0;
-    while i < 8 {
+    for i in 0..8 {
         let o = area::STATIONS + i * station::SIZE;
         let e = o + station::SIZE;
-        let x = initial_station(limits, i);
-        station::store(&mut area[o..e], x);
-        i += 1;
+        station::store(&mut area[o..e], initial_station(limits, i));
     }
 }
 
-// Makes the area the initial network of a header block: 11, 1, 3, or 0 when it is written.
-pub fn setup(block: &[u8], area: &mut [u8]) -> u8
-    ensures { (result ≡ (setup_on block.now area.old).answer) × (area.new ≡ (setup_on block.now area.old).buffer) }
+// Makes the area the initial network of a header block.
+pub fn setup(block: &[u8], area: &mut [u8]) -> Result<(), Refusal>
+    ensures { (told result ≡ (setup_on block.now area.old).answer) × (area.new ≡ (setup_on block.now area.old).buffer) }
 {
     if area.len() != area::SIZE {
-        return refusals::BUFFER_LENGTH;
+        return Err(Refusal::BufferLength);
     }
-    if !header::well_made(block) {
-        return refusals::MALFORMED;
-    }
+    let header = header::read(block)?;
     let limits = header::load_limits(block);
-    if !rules::setup_fits(header::load(block), limits) {
-        return refusals::NETWORK_RULE;
+    if !rules::setup_fits(header, limits) {
+        return Err(Refusal::NetworkRule);
     }
     codec::put_bytes(area, 0, block);
     put_stations(area, limits);
     codec::put_zeros(area, area::LINKS, area::BEHIND_STATIONS);
-    0
+    Ok(())
 }

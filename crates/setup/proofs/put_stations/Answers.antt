@@ -20,7 +20,7 @@ loop-i-preserved c =
     let a = c.args in
     let e : 512 + l.i * 47 + 47 - (512 + l.i * 47) ≡ 47 = omega arith in
     let t = station_turn a.area.now l.area _ a.limits l.i (512 + l.i * 47 + 47) (omega arith) c.requires l.invariant.2 e
-    (c.store.ensures ∙ ap image_station c.initial_station-x.ensures) in
+    (c.store.ensures ∙ ap image_station c.initial_station.ensures) in
     let s = fresh-length a.limits (l.i + 1) in
     (omega arith, ap length t ∙ splice-length a.area.now 512 (initial_bytes a.limits (l.i + 1)) (omega arith), t)
 
