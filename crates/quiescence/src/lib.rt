@@ -8,28 +8,20 @@ ghost use Rattle.area.specs.Layout.{area_size, state_at};
 ghost use Rattle.area_calls.specs.Calls.{rest_on};
 ghost use Rattle.quiescence.specs.View.{rest_view};
 
-#[derive(Clone, Copy)]
-pub enum RestAnswer {
-    Yes,
-    No,
-    Refused(u8),
-}
+use refusals::Refusal;
+use station::Mode;
 
 // Every station below n is normal, and in the phase of station 0.
 fn stations_quiescent(area: &[u8], n: u8) -> bool
     requires { (length area.now ≡ area_size) × (n ≤ 8) }
     ensures { result ≡ stations_quiescent (sized n 0) (state_at area.now) }
 {
-    let top = n as usize;
     let start = area_edit::parts::load_station(area, 0);
-    let mut i = 0;
-    while i < top {
+    for i in 0..usize::from(n) {
         let x = area_edit::parts::load_station(area, i);
-        let mode = x.mode;
-        if !(station::is_normal(mode) & (x.phase == start.phase)) {
+        if !((x.mode == Mode::Normal) & (x.phase == start.phase)) {
             return false;
         }
-        i += 1;
     }
     true
 }
@@ -39,27 +31,21 @@ fn links_empty(area: &[u8]) -> bool
     requires { length area.now ≡ area_size }
     ensures { result ≡ links_empty (state_at area.now) }
 {
-    let mut k = 0;
-    while k < 64 {
-        let o = area::LINKS + k * link::SIZE;
-        if area[o] != 0 {
+    for k in 0..64 {
+        if area[area::LINKS + k * link::SIZE] != 0 {
             return false;
         }
-        k += 1;
     }
     true
 }
 
-// Yes, no, or 2 where the area is no image of a well-formed state.
-pub fn rest(area: &[u8]) -> RestAnswer
+// Whether the network is at rest; a refusal where the area is no image of a well-formed state.
+pub fn rest(area: &[u8]) -> Result<bool, Refusal>
     ensures { rest_view result ≡ rest_on area.now }
 {
     if !area::well_formed(area) {
-        return RestAnswer::Refused(refusals::ILL_FORMED_STATE);
+        return Err(Refusal::IllFormedState);
     }
     let h = header::load(&area[0..area::STATIONS]);
-    if stations_quiescent(area, h.n) & links_empty(area) {
-        return RestAnswer::Yes;
-    }
-    RestAnswer::No
+    Ok(stations_quiescent(area, h.n) && links_empty(area))
 }

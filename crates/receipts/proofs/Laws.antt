@@ -1,5 +1,6 @@
 -- Receipts to rest, item by item, link by link and station by station. Assumes nothing.
 use Prim.Native.Nat.{ℕ, zero, suc, ◌+◌, ◌*◌, ◌-◌, ◌/◌, ◌%◌, ◌≤◌, ◌<◌}
+use mir.Val.{bool_byte}
 use mathlib.Core.Path.{◌≡◌, refl, ◌∙◌, subst, sym, ap}
 use mathlib.Core.List.{List, [], ◌∷◌}
 use mathlib.Core.Bool.{Bool, true, false, not, cond, ◌&&◌}
@@ -12,7 +13,7 @@ use borrow.Author.Tests.{eq-eqb, ne_eqb}
 use Rattle.codec.specs.Num.{AreBytes}
 use Rattle.codec.specs.Rows.{upto}
 use Rattle.codec.specs.Every.{sum, greatest}
-use Rattle.codec.proofs.EveryLaws.{both, sum_none}
+use Rattle.codec.proofs.EveryLaws.{both}
 use Rattle.codec.proofs.SumLaws.{sum_same, sum_rows}
 use Rattle.header.specs.Header.{parse_header}
 use Rattle.header.specs.declared.Header.{Header}
@@ -36,6 +37,10 @@ use Rattle.area.specs.Layout.{station_bytes, link_bytes, config_at, state_at, te
 use Rattle.area.proofs.Exact.{tested, station_read, link_read, config-made}
 
 -- ---- messages
+pub bool-small : (b : Bool) → bool_byte b ≤ 1
+bool-small true = omega arith
+bool-small false = omega arith
+
 messages-upto : (n : ℕ) (f : ℕ → Item vector) → messages (upto n f) ≡ sum n (λ (k : ℕ). messages (f k ∷ []))
 unfolding upto sum
 messages-upto zero f = refl
@@ -62,10 +67,6 @@ messages_at_is l k = rw (get_or-take 21 (drop (1 + k * 21) l) 0 0 (omega arith),
 -- those of link k of an area
 abbrev pub on_link : List ℕ → ℕ → ℕ
 on_link a k = messages (parse_link (link_bytes a k))
-
--- none where it holds no item
-pub none_on : (a : List ℕ) (k : ℕ) → get_or (link_bytes a k) 0 0 ≡ 0 → on_link a k ≡ 0
-none_on a k e = messages-are (link_bytes a k) ∙ (ap (λ (n : ℕ). sum n (messages_at (link_bytes a k))) e ∙ sum_none (messages_at (link_bytes a k)))
 
 pub under_way_lem : (a : List ℕ) → under_way (state_at a) ≡ sum 64 (on_link a)
 unfolding under_way

@@ -1,8 +1,9 @@
 -- The code's answer of receipts to rest as the definition's. Assumes nothing.
+use Rattle.std.specs.Prelude.{ℕ, Result, Ok, Err}
+use Rattle.refusals.specs.declared.Refusal.{Refusal}
+use Rattle.refusals.specs.Numbers.{number_of}
 use Rattle.area_calls.specs.Calls.{ReceiptsAnswer, receipts_left, receipts_refused}
-use Rattle.receipts.specs.declared.ReceiptsAnswer.{ReceiptsAnswer as CodeAnswer}
-use Rattle.receipts.specs.declared.ReceiptsAnswer.TheVariants.{Left, Refused}
 
-abbrev pub receipts_view : CodeAnswer → ReceiptsAnswer
-receipts_view (Left k) = receipts_left k
-receipts_view (Refused k) = receipts_refused k
+abbrev pub receipts_view : Result ℕ Refusal → ReceiptsAnswer
+receipts_view (Ok k) = receipts_left k
+receipts_view (Err r) = receipts_refused (number_of r)

@@ -1,61 +1,25 @@
 // Receipts to rest: how many receipts, in whichever order, empty the links of the network of an area.
 #![tactic(auto)]
 
-ghost use Rattle.std.specs.Prelude.{◌≡◌, true, ℕ, ◌*◌, ◌-◌, ◌<◌, ◌≤◌, max, length, get_or};
+ghost use Rattle.std.specs.Prelude.{◌≡◌, true, ℕ, ◌*◌, ◌-◌, ◌<◌, ◌≤◌, length, get_or};
 ghost use Rattle.codec.specs.Every.{sum};
 ghost use Rattle.clock.specs.Range.{last_phase};
-ghost use Rattle.reset.specs.Receipts.{muted, bit, target, greatest_target, messages, under_way, controls_taken, controls_left};
-ghost use Rattle.station.specs.View.{mode_view, station_view};
+ghost use Rattle.reset.specs.Receipts.{target, greatest_target, messages, under_way, controls_taken, controls_left};
+ghost use Rattle.station.specs.View.{station_view};
 ghost use Rattle.link.specs.Image.{most_items, link_size, parse_link, sized};
 ghost use Rattle.area.specs.Layout.{config_at, state_at, test};
 ghost use Rattle.area_calls.specs.Calls.{receipts_on};
 ghost use Rattle.receipts.specs.View.{receipts_view};
 
+use refusals::Refusal;
 use station::{Mode, Station};
-
-#[derive(Clone, Copy)]
-pub enum ReceiptsAnswer {
-    Left(u32),
-    Refused(u8),
-}
-
-// 1 for a mute station, else 0.
-fn muted(m: Mode) -> u32
-    ensures { (result ≡ muted (mode_view m)) × (result ≤ 1) }
-{
-    match m {
-        Mode::Normal => 0,
-        Mode::Mute => 1,
-        Mode::StandBy => 0,
-    }
-}
-
-fn bit(seen: bool) -> u32
-    ensures { (result ≡ bit seen) × (result ≤ 1) }
-{
-    if seen { 1 } else { 0 }
-}
-
-fn greater(a: u32, b: u32) -> u32
-    ensures { result ≡ max a b }
-{
-    if a < b { b } else { a }
-}
-
-// 0 where b is the greater.
-fn less(a: u32, b: u32) -> u32
-    ensures { result ≡ a - b }
-{
-    if a < b { 0 } else { a - b }
-}
 
 // The target phase: a station's phase, or one more when mute.
 fn target(x: Station) -> u32
     requires { x.phase ≤ last_phase }
     ensures { (result ≡ target (station_view x)) × (result ≤ 1000000) }
 {
-    let mode = x.mode;
-    x.phase + muted(mode)
+    x.phase + u32::from(x.mode == Mode::Mute)
 }
 
 // The greatest target of the stations below n.
@@ -63,14 +27,10 @@ fn greatest_target(area: &[u8], n: u8) -> u32
     requires { (test area.now ≡ true) × (n ≤ 8) }
     ensures { (result ≡ greatest_target (sized n 0) (state_at area.now)) × (result ≤ 1000000) }
 {
-    let top = n as usize;
     let mut g: u32 = 0;
-    let mut i = 0;
-    while i < top {
+    for i in 0..usize::from(n) {
         let x = area_edit::parts::load_station(area, i);
-        let t = target(x);
-        g = greater(g, t);
-        i += 1;
+        g = g.max(target(x));
     }
     g
 }
@@ -80,14 +40,10 @@ fn messages_on(part: &[u8]) -> u32
     requires { (length part.now ≡ link_size) × (get_or part.now 0 0 ≤ most_items) }
     ensures { (result ≡ messages (parse_link part.now)) × (result ≤ most_items) }
 {
-    let b = part[0];
-    let count = b as usize;
     let mut m: u32 = 0;
-    let mut k = 0;
-    while k < count {
+    for k in 0..usize::from(part[0]) {
         let kind = part[1 + k * link::ITEM_SIZE];
-        m += bit((kind != link::RESET_REQ) & (kind != link::RESET_DONE));
-        k += 1;
+        m += u32::from((kind != link::RESET_REQ) & (kind != link::RESET_DONE));
     }
     m
 }
@@ -98,14 +54,9 @@ fn messages_under_way(area: &[u8]) -> u32
     ensures { (result ≡ under_way (state_at area.now)) × (result ≤ 2176) }
 {
     let mut m: u32 = 0;
-    let mut k = 0;
-    while k < 64 {
+    for k in 0..64 {
         let o = area::LINKS + k * link::SIZE;
-        let e = o + link::SIZE;
-        if area[o] != 0 {
-            m += messages_on(&area[o..e]);
-        }
-        k += 1;
+        m += messages_on(&area[o..o + link::SIZE]);
     }
     m
 }
@@ -115,10 +66,8 @@ fn controls_left(x: Station, i: usize, g: u32) -> u32
     requires { (i < 8) × (x.phase ≤ last_phase) × (g ≤ 1000000) }
     ensures { (result ≡ 2 * g - controls_taken (station_view x) i) × (result ≤ 2000000) }
 {
-    let reqs = x.reqs;
-    let dones = x.dones;
-    let taken = x.phase + bit(reqs[i]) + (target(x) + bit(dones[i]));
-    less(2 * g, less(taken, 1))
+    let taken = x.phase + u32::from(x.reqs[i]) + (target(x) + u32::from(x.dones[i]));
+    (2 * g).saturating_sub(taken.saturating_sub(1))
 }
 
 // The same of station j, from all its neighbours together. The limits stand from byte 32 on, row by row.
@@ -128,12 +77,10 @@ fn controls_to(area: &[u8], j: usize, g: u32) -> u32
 {
     let x = area_edit::parts::load_station(area, j);
     let mut left: u32 = 0;
-    let mut i = 0;
-    while i < 8 {
+    for i in 0..8 {
         if area[32 + (i * 8 + j)] != 0 {
             left += controls_left(x, i, g);
         }
-        i += 1;
     }
     left
 }
@@ -144,23 +91,21 @@ fn all_controls(area: &[u8], g: u32) -> u32
     ensures { (result ≡ sum 8 (λ (j : ℕ). sum 8 (controls_left (config_at area.now) (state_at area.now) g j))) × (result ≤ 128000000) }
 {
     let mut left: u32 = 0;
-    let mut j = 0;
-    while j < 8 {
+    for j in 0..8 {
         left += controls_to(area, j, g);
-        j += 1;
     }
     left
 }
 
-// The number of receipts, or 2 where the area is no image of a well-formed state.
-pub fn to_rest(area: &[u8]) -> ReceiptsAnswer
+// The number of receipts, or a refusal where the area is no image of a well-formed state.
+pub fn to_rest(area: &[u8]) -> Result<u32, Refusal>
     ensures { receipts_view result ≡ receipts_on area.now }
 {
     if !area::well_formed(area) {
-        return ReceiptsAnswer::Refused(refusals::ILL_FORMED_STATE);
+        return Err(Refusal::IllFormedState);
     }
     let h = header::load(&area[0..area::STATIONS]);
     let messages = messages_under_way(area);
     let controls = all_controls(area, greatest_target(area, h.n));
-    ReceiptsAnswer::Left(messages + controls)
+    Ok(messages + controls)
 }

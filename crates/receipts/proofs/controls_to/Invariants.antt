@@ -1,4 +1,4 @@
-use Prim.Native.Nat.{◌*◌, ◌-◌, ◌≤◌}
+use Prim.Native.Nat.{◌*◌, ◌≤◌}
 use mathlib.Core.Path.{◌≡◌}
 use Rattle.codec.specs.Every.{sum}
 use Rattle.reset.specs.Receipts.{controls_left}
@@ -7,6 +7,3 @@ use Rattle.receipts.proofs.controls_to.Given as goal
 
 abbrev pub invariant-loop-i : goal.invariant-loop-i
 invariant-loop-i l = (l.i ≤ 8) × (l.left ≡ sum l.i (controls_left (config_at l.area) (state_at l.area) l.g l.j)) × (l.left ≤ l.i * 2000000)
-
-abbrev pub decreases-loop-i : goal.decreases-loop-i
-decreases-loop-i l = 8 - l.i

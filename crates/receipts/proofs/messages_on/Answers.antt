@@ -1,10 +1,10 @@
-use Prim.Native.Nat.{ℕ, ◌+◌, ◌-◌}
+use Prim.Native.Nat.{ℕ, ◌+◌}
 use mathlib.Core.Path.{◌≡◌, ◌∙◌, sym, ap}
 use native.Mathlib.Omega.{arith}
 use lib.ListN.{get_or}
 use Rattle.codec.specs.Every.{sum}
 use Rattle.codec.proofs.EveryLaws.{sum_none, sum_more}
-use Rattle.receipts.proofs.Laws.{messages_at, messages_at_is, messages-are}
+use Rattle.receipts.proofs.Laws.{bool-small, messages_at, messages_at_is, messages-are}
 use Rattle.receipts.proofs.messages_on.Goals as goal
 
 pub loop-k-preserved : goal.loop-k-preserved
@@ -12,17 +12,14 @@ loop-k-preserved c =
     let a = c.args.part.now in
     let k = c.loop-k.k in
     let s : sum (k + 1) (messages_at a) ≡ sum k (messages_at a) + messages_at a k = sum_more k (messages_at a) in
-    let t : messages_at a k ≡ c.bit-m.result = messages_at_is a k ∙ sym c.bit-m.ensures.0 in
-    (omega arith, omega arith, omega arith)
+    let t : messages_at a k ≡ c.from-m.result = messages_at_is a k ∙ sym c.from-m.ensures in
+    (omega arith, omega (arith, c.from-m.ensures, bool-small))
 
 pub returns : goal.returns
 returns c =
     let a = c.args.part.now in
     let e : c.loop-k.k ≡ get_or a 0 0 = omega arith in
-    (c.loop-k.invariant.1 ∙ (ap (λ (n : ℕ). sum n (messages_at a)) e ∙ sym (messages-are a)), omega arith)
-
-pub overflow_cast-count : goal.overflow_cast-count
-overflow_cast-count c = omega (arith, c.type_inv.part 0)
+    (c.loop-k.invariant.0 ∙ (ap (λ (n : ℕ). sum n (messages_at a)) e ∙ sym (messages-are a)), omega arith)
 
 pub loop-k-init : goal.loop-k-init
-loop-k-init c = (omega arith, sym (sum_none _), omega arith)
+loop-k-init c = (sym (sum_none _), omega arith)

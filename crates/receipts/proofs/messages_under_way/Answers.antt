@@ -1,4 +1,4 @@
-use Prim.Native.Nat.{ℕ, ◌+◌, ◌-◌}
+use Prim.Native.Nat.{ℕ, ◌+◌}
 use mathlib.Core.Path.{◌≡◌, refl, ◌∙◌, sym, ap}
 use mathlib.Core.List.{List}
 use native.Mathlib.Omega.{arith}
@@ -6,10 +6,9 @@ use Rattle.codec.specs.Num.{AreBytes}
 use Rattle.codec.specs.Every.{sum}
 use Rattle.codec.proofs.EveryLaws.{sum_none, sum_more}
 use Rattle.area.proofs.Parts.{link-long}
-use Rattle.area_edit.proofs.PartLaws.{link_part, count_byte}
-use Rattle.receipts.proofs.Laws.{on_link, none_on, under_way_lem, long, count_most}
+use Rattle.area_edit.proofs.PartLaws.{link_part}
+use Rattle.receipts.proofs.Laws.{on_link, under_way_lem, long, count_most}
 use Rattle.receipts.proofs.messages_under_way.Goals as goal
-use Rattle.receipts.proofs.messages_under_way.Goals.{then-area-o-ne0, else-area-o-ne0}
 
 pub messages_on-m-requires : goal.messages_on-m-requires
 messages_on-m-requires c =
@@ -22,14 +21,9 @@ pub loop-k-preserved : goal.loop-k-preserved
 loop-k-preserved c =
     let a = c.args.area.now in
     let k = c.loop-k.k in
-    let s : sum (k + 1) (on_link a) ≡ sum k (on_link a) + on_link a k = sum_more k (on_link a) in (
-      omega arith,
-      elim c.if-area-o-ne0.branch [
-        | then-area-o-ne0 w ↦ omega (arith, rw (link_part a k refl) at w.messages_on-m.ensures.0, w.m-is)
-        | else-area-o-ne0 w ↦ omega (arith, none_on a k (sym (count_byte a k refl) ∙ w.if-area-o-ne0.false), w.m-is)
-      ],
-      elim c.if-area-o-ne0.branch [ then-area-o-ne0 w ↦ omega arith | else-area-o-ne0 w ↦ omega arith ],
-    )
+    let s : sum (k + 1) (on_link a) ≡ sum k (on_link a) + on_link a k = sum_more k (on_link a) in
+    let t = rw (link_part a k refl) at c.messages_on-m.ensures.0 in
+    (omega arith, omega arith, omega arith)
 
 pub returns : goal.returns
 returns c =
@@ -39,9 +33,6 @@ returns c =
 
 pub loop-k-init : goal.loop-k-init
 loop-k-init c = (omega arith, sym (sum_none _), omega arith)
-
-pub bounds-area-o : goal.bounds-area-o
-bounds-area-o c = omega (arith, long _ c.requires)
 
 pub slice_bounds-messages_on-end : goal.slice_bounds-messages_on-end
 slice_bounds-messages_on-end c = omega (arith, long _ c.requires)
