@@ -2,6 +2,7 @@
 #![tactic(auto)]
 
 ghost use Rattle.std.specs.Prelude.{◌≡◌, true, ◌+◌, ◌*◌, ◌≤◌, ◌<◌, length, get_or};
+ghost use Rattle.refusals.specs.Numbers.{told};
 ghost use Rattle.reset.specs.Steps.{enter as Enter, send as Send, may_send};
 ghost use Rattle.station.specs.View.{mode_view, station_view};
 ghost use Rattle.link.specs.Image.{most_items};
@@ -11,38 +12,36 @@ ghost use Rattle.enter_send.specs.Sending.{send_refusal, Sends};
 
 use area_edit::parts;
 use link::Item;
+use record::Kind;
+use refusals::Refusal;
 use station::{Mode, Station};
-use step_parts::answer::Stepped;
-use step_parts::{answer, config};
+use step_parts::answer;
+use step_parts::answer::Accepted;
+use step_parts::config::Config;
 
-pub fn enter(area: &mut [u8], station: u32, register: u32) -> Stepped
+pub fn enter(area: &mut [u8], station: u32, register: u32) -> Result<Accepted, Refusal>
     requires { test area.old ≡ true }
     ensures { Does (Enter station register) area.old result area.new }
 {
-    let h = config::header_of(&area[..]);
-    if codec::wide32(h.n) <= station {
-        return answer::refused(refusals::NO_SUCH_STATION);
-    }
-    let i = station as usize;
+    let config = Config::read(&area[..]);
+    let i = config.station(station)?;
     let s = parts::load_station(&area[..], i);
-    let allowances = h.allowances;
-    if allowances[i] <= s.own {
-        return answer::refused(refusals::USED_UP);
+    if config.header.allowances[i] <= s.own {
+        return Err(Refusal::UsedUp);
     }
-    let counts = s.counts;
-    if h.t <= counts[i] {
-        return answer::refused(refusals::ILL_FORMED_STATE);
+    if config.header.t <= s.counts[i] {
+        return Err(Refusal::IllFormedState);
     }
     let after = reset_rules::entered(s, i);
     parts::put_station(area, i, after);
-    answer::entry(
-        answer::OWN,
-        station as u8,
+    Ok(Accepted::entry(
+        Kind::Own,
+        i as u8,
         answer::NO_PEER,
         register,
         after,
         answer::NO_NEWS,
-    )
+    ))
 }
 
 fn may_send(mode: Mode, done: bool) -> bool
@@ -55,64 +54,46 @@ fn may_send(mode: Mode, done: bool) -> bool
     }
 }
 
-// Which refusal a send over a link meets, 0 for none: 5, 6, 2.
-fn send_refusal(s: Station, t: u16, limit: u8, count: u8, i: usize, j: usize) -> u8
+// Refused where the mode forbids a send over a link, the link's limit is used up, or a bound is met.
+fn admit(s: Station, t: u16, limit: u8, count: u8, i: usize, j: usize) -> Result<(), Refusal>
     requires { (i < 8) × (j < 8) × (limit ≤ 32) }
-    ensures { result ≡ send_refusal (station_view s) t limit count i j }
+    ensures { told result ≡ send_refusal (station_view s) t limit count i j }
 {
-    let mode = s.mode;
-    let dones = s.dones;
-    if !may_send(mode, dones[j]) {
-        return refusals::MODE_FORBIDS;
+    if !may_send(s.mode, s.dones[j]) {
+        return Err(Refusal::ModeForbids);
     }
-    let sent = s.sent;
-    if limit <= sent[j] {
-        return refusals::USED_UP;
+    if limit <= s.sent[j] {
+        return Err(Refusal::UsedUp);
     }
-    let counts = s.counts;
-    if t <= counts[i] {
-        return refusals::ILL_FORMED_STATE;
+    if t <= s.counts[i] {
+        return Err(Refusal::IllFormedState);
     }
-    if link::places(limit) <= codec::wide32(count) {
-        return refusals::ILL_FORMED_STATE;
+    if link::places(limit) <= u32::from(count) {
+        return Err(Refusal::IllFormedState);
     }
-    0
+    Ok(())
 }
 
 // Station i's message goes on its link to j.
-fn send_message(area: &mut [u8], s: Station, i: usize, j: usize, register: u32) -> Stepped
+fn send_message(area: &mut [u8], s: Station, i: usize, j: usize, register: u32) -> Accepted
     requires { (length area.old ≡ area_size) × (i < 8) × (j < 8) × (get_or s.counts i 0 < 65535) × (get_or s.sent j 0 < 255) × (get_or (link_bytes area.old (i * 8 + j)) 0 0 < most_items) }
     ensures { Sends (station_view s) i j register area.old result area.new }
 {
     let x = reset_rules::sending(s, i, j);
     let counts = x.counts;
-    let item = Item {
-        kind: link::MESSAGE,
-        register,
-        counts,
-    };
-    parts::push_at(area, i, j, item);
+    parts::push_at(area, i, j, Item::Message { register, counts });
     parts::put_station(area, i, x);
-    answer::entry(answer::SENT, i as u8, j as u8, register, x, answer::NO_NEWS)
+    Accepted::entry(Kind::Sent, i as u8, j as u8, register, x, answer::NO_NEWS)
 }
 
-pub fn send(area: &mut [u8], station: u32, peer: u32, register: u32) -> Stepped
+pub fn send(area: &mut [u8], station: u32, peer: u32, register: u32) -> Result<Accepted, Refusal>
     requires { test area.old ≡ true }
     ensures { Does (Send station peer register) area.old result area.new }
 {
-    let h = config::header_of(&area[..]);
-    let limits = config::limits_of(&area[..]);
-    if !config::linked(h, limits, station, peer) {
-        return answer::refused(refusals::NO_SUCH_STATION);
-    }
-    let i = station as usize;
-    let j = peer as usize;
-    let row = limits[i];
+    let config = Config::read(&area[..]);
+    let (i, j) = config.link(station, peer)?;
     let s = parts::load_station(&area[..], i);
     let count = parts::count_at(&area[..], i, j);
-    let refusal = send_refusal(s, h.t, row[j], count, i, j);
-    if refusal != 0 {
-        return answer::refused(refusal);
-    }
-    send_message(area, s, i, j, register)
+    admit(s, config.header.t, config.limits[i][j], count, i, j)?;
+    Ok(send_message(area, s, i, j, register))
 }

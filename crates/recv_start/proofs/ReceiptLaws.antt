@@ -4,13 +4,17 @@ use mathlib.Core.Path.{◌≡◌, refl, sym, ◌∙◌, ap}
 use mathlib.Core.List.{List, [], ◌∷◌}
 use native.Mathlib.Omega.{arith}
 use lib.ListN.{length, get_or}
-use borrow.Author.Tests.{ne_eqb}
+use denote.Enum.Bare.{sameb}
 use Rattle.codec.specs.Num.{AreBytes}
 use Rattle.reset.specs.Clock.{vector}
-use Rattle.reset.specs.State.{Item, message, reset_req, reset_done, link_at, set_link}
+use Rattle.reset.specs.State.{Item, reset_req, link_at, set_link}
 use Rattle.reset.proofs.Views.{none_long, link_set-row}
-use Rattle.link.specs.Image.{Queue, item_at, item_of as item_as, item_view}
-use Rattle.link.specs.declared.Item.{Item as CodeItem}
+use Rattle.reset.specs.Steps.{is_normal}
+use Rattle.station.specs.View.{mode_view}
+use Rattle.station.specs.declared.Mode.{Mode as CodeMode}
+use Rattle.station.specs.declared.Mode.TheVariants.{Normal, Mute, StandBy}
+use Rattle.station.specs.contracts.Mode.{the_type as mode_type}
+use Rattle.link.specs.Image.{Queue, item_at}
 use Rattle.link.proofs.Laws.{parse_item_lem}
 use Rattle.step_outcomes.proofs.Outcome.{net}
 use Rattle.area.specs.Layout.{link_bytes, config_at, state_at}
@@ -44,15 +48,8 @@ module _ {a : List ℕ} {i j : ℕ} (k : AtLink a i j) where
 pub held : (a : List ℕ) (i j : ℕ) → AreBytes a → Holds a i j → AtLink a i j
 held a i j b h = at_link_of (passed a b h.tested) i j h.station h.neighbour
 
--- ---- an item by its kind
-pub is_req : (x : CodeItem) → x.kind ≡ 2 → item_view x ≡ reset_req
-unfolding item_as
-is_req x e = rw e
-
-pub is_done : (x : CodeItem) → x.kind ≡ 3 → item_view x ≡ reset_done
-unfolding item_as
-is_done x e = rw e
-
-pub is_message : (x : CodeItem) → (x.kind ≡ 2 → ⊥) → (x.kind ≡ 3 → ⊥) → item_view x ≡ message x.counts x.register
-unfolding item_as
-is_message x f g = rw (ne_eqb x.kind 2 f, ne_eqb x.kind 3 g)
+-- the code's test of a mode
+pub normal_is : (m : CodeMode) → sameb mode_type m Normal ≡ is_normal (mode_view m)
+normal_is Normal = refl
+normal_is Mute = refl
+normal_is StandBy = refl

@@ -25,11 +25,15 @@ use Rattle.step_outcomes.proofs.Outcome.{station-small, neighbour-small}
 use Rattle.area.specs.Layout.{image, station_bytes, link_bytes, config_at, state_at, test}
 use Rattle.area.proofs.Exact.{tested, formed, formed_fits, station_read, formed-imaged}
 use Rattle.area_edit.proofs.PartLaws.{link-held}
-use Rattle.step_parts.specs.Answers.{stepped_of, no_record}
+use Rattle.step_parts.specs.Answers.{stepped_of, step_view}
 use Rattle.step_parts.specs.Does.{Does}
 use Rattle.step_parts.specs.Link.{is_linked}
-use Rattle.step_parts.specs.declared.answer.Answer.TheVariants.{Refused}
-use Rattle.step_parts.specs.declared.answer.Stepped.{Stepped}
+use Rattle.std.specs.Prelude.{Result, Err}
+use Rattle.std.specs.Result.{IsErrAnd}
+use Rattle.std.proofs.lemmas.Result.{err_from_is_err_and}
+use Rattle.refusals.specs.declared.Refusal.{Refusal}
+use Rattle.refusals.specs.Numbers.{number_of}
+use Rattle.step_parts.specs.declared.answer.Accepted.{Accepted}
 
 -- ---- an area of bytes that passed its test
 pub record Passed (a : List ℕ) : Type 0 where
@@ -43,15 +47,20 @@ passed a b w = record { tested = w; long = (tested a w).long; is = sym (formed a
 
 module _ {a : List ℕ} (k : Passed a) where
   -- a step done, and one refused, which leaves the area
-  pub does : {p : Step} (o : Outcome vector) {r : Stepped} {d : List ℕ} → step (config_at a) (state_at a) p ≡ o → r ≡ stepped_of o.answer → d ≡ image (config_at a) o.after → Does p a r d
+  pub does : {p : Step} (o : Outcome vector) {r : Result Accepted Refusal} {d : List ℕ} → step (config_at a) (state_at a) p ≡ o → step_view r ≡ stepped_of o.answer → d ≡ image (config_at a) o.after → Does p a r d
   does o e f g =
       record {
         answer = f ∙ sym (ap (λ (o : Outcome vector). stepped_of o.answer) e);
         area = g ∙ sym (ap (λ (o : Outcome vector). image (config_at a) o.after) e);
       }
 
-  pub refuses : {p : Step} {n : ℕ} {r : Stepped} → step (config_at a) (state_at a) p ≡ refuse (state_at a) n → r ≡ record { answer = Refused n; event = no_record } → Does p a r a
-  refuses {n = n} e f = does (refuse (state_at a) n) e f k.is
+  pub refuses : {p : Step} (r : Refusal) → step (config_at a) (state_at a) p ≡ refuse (state_at a) (number_of r) → Does p a (Err r) a
+  refuses r e = does (refuse (state_at a) (number_of r)) e refl k.is
+
+  -- where a `?` hands the refusal x on
+  pub hands_on : {p : Step} {r : Result Accepted Refusal} {x : Refusal} (q : Refusal) → IsErrAnd r (λ y. y ≡ x) → x ≡ q
+      → step (config_at a) (state_at a) p ≡ refuse (state_at a) (number_of q) → Does p a r a
+  hands_on {r = r} q f e g = let y = err_from_is_err_and r f in rw (y.1, y.2, e) (refuses q g)
 
   pub made : well_made (config_at a) ≡ true
   made = (both (well_made (config_at a)) _ (formed_of (config_at a) (state_at a) k.formed).accepted).0

@@ -24,11 +24,12 @@ use Rattle.reset_rules.specs.declared.Turned.{Turned}
 use Rattle.step_outcomes.proofs.Local.{room_for}
 use Rattle.area.specs.Layout.{image, link_bytes, config_at, state_at}
 use Rattle.area_edit.specs.Room.{Roomy}
+use Rattle.std.specs.Prelude.{Ok}
 use Rattle.step_parts.specs.Answers.{stepped_of, mode_code}
 use Rattle.step_parts.specs.Does.{Does}
 use Rattle.step_parts.specs.Room.{room_bytes, items, in_bounds_after}
 use Rattle.step_parts.specs.Settles.{Settles}
-use Rattle.step_parts.specs.declared.answer.Stepped.{Stepped}
+use Rattle.step_parts.specs.declared.answer.Accepted.{Accepted}
 use Rattle.step_parts.proofs.Read.{Passed, does, made, count_is}
 
 -- the code's mode is the network's, and back
@@ -95,7 +96,7 @@ module _ {a : List ℕ} (k : Passed a) (i : ℕ) (il : i < 8) {m : List (List �
     pub settled : {p : Step} (u : Turning vector) → turned_view t ≡ u → (s₁ : State vector)
         → step (config_at a) (state_at a) p
         ≡ record { answer = mode_after i u.station.mode u.station.phase; after = put_items (config_at a) (set_station s₁ i u.station) i u.items }
-        → {d : List ℕ} → d ≡ image (config_at a) s₁ → {r : Stepped} {b : List ℕ} → Settles m i t d r b → Does p a r b
+        → {d : List ℕ} → d ≡ image (config_at a) s₁ → {r : Accepted} {b : List ℕ} → Settles m i t d r b → Does p a (Ok r) b
     settled u v s₁ e p h =
         does k _ e (h.answer ∙ ap (λ (x : Turning vector). stepped_of (mode_after i x.station.mode x.station.phase)) v)
         (h.area c s₁ (sym l) p ∙ ap (λ (x : Turning vector). image c (put_items c (set_station s₁ i x.station) i x.items)) v)

@@ -1,4 +1,4 @@
-// What the four steps share: the header read, the answers, and what the reset rules lead a station to, tested and written.
+// What the four steps share: the configuration read, the answers, and what the reset rules lead a station to, tested and written.
 #![tactic(auto)]
 
 pub mod answer;

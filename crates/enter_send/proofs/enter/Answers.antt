@@ -1,8 +1,8 @@
 use Prim.Native.Nat.{ℕ}
 use mathlib.Core.Path.{◌≡◌, ◌∙◌, sym, ap}
-use mathlib.Core.List.{List}
 use native.Mathlib.Omega.{arith}
 use lib.ListN.{get_or}
+use Rattle.refusals.specs.declared.Refusal.TheVariants.{IllFormedState, NoSuchStation, UsedUp}
 use Rattle.reset.specs.Config.{allowance_at}
 use Rattle.reset.specs.Clock.{vector}
 use Rattle.reset.specs.State.{Station as NetworkStation, station_at, set_station}
@@ -10,88 +10,67 @@ use Rattle.reset.specs.Steps.{entry, entered, entry_of, do_enter}
 use Rattle.station.specs.View.{station_view}
 use Rattle.step_outcomes.proofs.Outcome.{enter_no_station, enter_used_up, enter-full, enter-done}
 use Rattle.area.specs.Layout.{image, config_at, state_at}
+use Rattle.area.proofs.Exact.{tested}
 use Rattle.step_parts.specs.Answers.{stepped_of}
-use Rattle.step_parts.proofs.Read.{Passed, passed, refuses, does, t_is, t-small, allowance_small, AtStation, at_station, no_station, station_is, allowance_is}
+use Rattle.step_parts.proofs.Read.{passed, refuses, hands_on, does, t_is, t-small, allowance_small, AtStation, at_station, no_station, station_is, allowance_is}
 use Rattle.enter_send.proofs.enter.Goals as goal
-use Rattle.enter_send.proofs.enter.Goals.{After-header_of-h, After-load_station-s, Else-wide32-station, Start}
+use Rattle.enter_send.proofs.enter.Goals.{After-load_station-s}
 
--- the area, which passed its test, and its header read
-module _ (c : goal.After-header_of-h) where
-  abbrev g : goal.Start
-  g = c.before.before
-
-  abbrev a : List ℕ
-  a = c.args.area.now
-
-  abbrev i : ℕ
-  i = c.args.station
-
-  known : Passed a
-  known = passed a (λ n. omega (arith, c.slice_known-1.given n)) c.requires
-
--- there is such a station
-at : (c : goal.Else-wide32-station) → AtStation (a c.before.before) (i c.before.before)
-at c = at_station (known c.before.before) c.header_of-h.ensures _ (omega (arith, c.wide32.ensures.0))
-
--- its record is read
+-- the area passed its test, and the station's record is read
 module _ (c : goal.After-load_station-s) where
-  abbrev o : goal.Else-wide32-station
-  o = c.before
+  at : AtStation c.args.area.now c.in_ok-i.i
+  at = at_station (passed _ (λ n. omega (arith, c.slice_known-1.given n)) c.requires) c.read-config.ensures.header _ (omega (arith, c.in_ok-i.ensures.ok.0, c.in_ok-i.ensures.ok.1))
 
-  abbrev h : goal.After-header_of-h
-  h = c.before.before.before
-
-  x : station_at (state_at (a c.before.before.before)) (i c.before.before.before) ≡ station_view c.load_station-s.result
-  x = station_is (known c.before.before.before) _ (at c.before).i_small c.load_station-s.ensures
+  x : station_at (state_at c.args.area.now) c.in_ok-i.i ≡ station_view c.load_station-s.result
+  x = station_is at.area _ at.i_small c.load_station-s.ensures
 
   -- the count that the test looks at
-  own : get_or (station_at (state_at (a c.before.before.before)) (i c.before.before.before)).time (i c.before.before.before) 0 ≡ get_or c.load_station-s.result.counts (i c.before.before.before) 0
-  own = ap (λ (y : NetworkStation vector). get_or y.time (i c.before.before.before) 0) x
+  own : get_or (station_at (state_at c.args.area.now) c.in_ok-i.i).time c.in_ok-i.i 0 ≡ get_or c.load_station-s.result.counts c.in_ok-i.i 0
+  own = ap (λ (y : NetworkStation vector). get_or y.time c.in_ok-i.i 0) x
 
-  allowed : allowance_at (config_at (a c.before.before.before)) (station_at (state_at (a c.before.before.before)) (i c.before.before.before)).phase (i c.before.before.before) ≡ get_or c.header_of-h.result.allowances (i c.before.before.before) 0
-  allowed = allowance_is (known c.before.before.before) c.header_of-h.ensures _ _
+  allowed : allowance_at (config_at c.args.area.now) (station_at (state_at c.args.area.now) c.in_ok-i.i).phase c.in_ok-i.i ≡ get_or c.read-config.result.header.allowances c.in_ok-i.i 0
+  allowed = allowance_is at.area c.read-config.ensures.header _ _
 
-pub returns-then-wide32-station : goal.returns-then-wide32-station
-returns-then-wide32-station c =
-    let k = known (goal.at.returns-then-wide32-station c).After-header_of-h in
-    refuses k (enter_no_station _ _ k.formed _ _ (no_station k c.header_of-h.ensures _ (omega (arith, c.wide32.ensures.0, c.if-wide32-station.true)))) c.refused.ensures
+pub returns-in_err-i : goal.returns-in_err-i
+returns-in_err-i c =
+    let k = passed _ (λ n. omega (arith, c.slice_known-1.given n)) c.requires in
+    let (e, l) = c.in_err-i.ensures.err in
+    hands_on k NoSuchStation c.from_residual.ensures.1 e (enter_no_station _ _ k.formed _ _ (no_station k c.read-config.ensures.header _ l))
 
-pub returns-then-allowances-i : goal.returns-then-allowances-i
-returns-then-allowances-i c =
-    let k = known (h (goal.at.returns-then-allowances-i c).After-load_station-s) in
-    refuses k (enter_used_up _ _ k.formed _ _ (at (o (goal.at.returns-then-allowances-i c).After-load_station-s)).station (rw (allowed (goal.at.returns-then-allowances-i c).After-load_station-s, x (goal.at.returns-then-allowances-i c).After-load_station-s) c.if-allowances-i.true)) c.refused-then-allowances-i.ensures
+pub load_station-s-requires : goal.load_station-s-requires
+load_station-s-requires c = ((tested _ c.requires).long, omega (arith, c.in_ok-i.ensures.ok.0, c.in_ok-i.ensures.ok.1, c.read-config.result.few))
 
-pub returns-then-h-counts : goal.returns-then-h-counts
-returns-then-h-counts c =
-    let k = known (h (goal.at.returns-then-h-counts c).After-load_station-s) in
-    refuses k (enter-full _ _ k.formed _ _ (at (o (goal.at.returns-then-h-counts c).After-load_station-s)).station (rw (allowed (goal.at.returns-then-h-counts c).After-load_station-s, x (goal.at.returns-then-h-counts c).After-load_station-s) c.if-allowances-i.false) (omega (arith, c.if-h-counts.true, t_is k c.header_of-h.ensures, own (goal.at.returns-then-h-counts c).After-load_station-s))) c.refused-then-h-counts.ensures
+pub returns-then-config-i : goal.returns-then-config-i
+returns-then-config-i c =
+    let l = (goal.at.returns-then-config-i c).After-load_station-s in
+    let k = at l in
+    rw (← c.in_ok-i.ensures.ok.0) (refuses k.area UsedUp (enter_used_up _ _ k.area.formed _ _ k.station (rw (allowed l, x l) c.if-config-i.true)))
+
+pub returns-then-config-s : goal.returns-then-config-s
+returns-then-config-s c =
+    let l = (goal.at.returns-then-config-s c).After-load_station-s in
+    let k = at l in
+    rw (← c.in_ok-i.ensures.ok.0)
+    (refuses k.area IllFormedState (enter-full _ _ k.area.formed _ _ k.station (rw (allowed l, x l) c.if-config-i.false) (omega (arith, c.if-config-s.true, t_is k.area c.read-config.ensures.header, own l))))
 
 pub entered-after-requires : goal.entered-after-requires
 entered-after-requires c =
-    let k = known (h (goal.at.entered-after-requires c).After-load_station-s) in
-    let n = (at (o (goal.at.entered-after-requires c).After-load_station-s)).i_small in
-    (n, omega (arith, t-small k, t_is k c.header_of-h.ensures), omega (arith, allowance_small k c.header_of-h.ensures _ n))
+    let k = at (goal.at.entered-after-requires c).After-load_station-s in
+    (k.i_small, omega (arith, t-small k.area, t_is k.area c.read-config.ensures.header), omega (arith, allowance_small k.area c.read-config.ensures.header _ k.i_small))
+
+pub put_station-requires : goal.put_station-requires
+put_station-requires c = ((tested _ c.requires).long, omega (arith, c.in_ok-i.ensures.ok.0, c.in_ok-i.ensures.ok.1, c.read-config.result.few))
 
 pub returns : goal.returns
 returns c =
-    let r = (g (h (goal.at.returns c).After-load_station-s)).args.register in
-    let k = known (h (goal.at.returns c).After-load_station-s) in
-    let n = i (h (goal.at.returns c).After-load_station-s) in
-    let s = state_at (a (h (goal.at.returns c).After-load_station-s)) in
-    let z : station_view c.entered-after.result ≡ entered n (station_at s n) = c.entered-after.ensures ∙ ap (entered n) (sym (x (goal.at.returns c).After-load_station-s)) in
-    does k (do_enter n r s)
-    (enter-done _ _ k.formed _ _ (at (o (goal.at.returns c).After-load_station-s)).station (rw (allowed (goal.at.returns c).After-load_station-s, x (goal.at.returns c).After-load_station-s) c.if-allowances-i.false) (omega (arith, c.if-h-counts.false, t_is k c.header_of-h.ensures, own (goal.at.returns c).After-load_station-s)))
-    (c.entry.ensures ∙ ap (λ (y : NetworkStation vector). stepped_of (entry (entry_of 1 n 255 r y 0))) z)
-    (c.put_station.ensures (config_at (a (h (goal.at.returns c).After-load_station-s))) s k.is ∙ ap (λ (y : NetworkStation vector). image (config_at (a (h (goal.at.returns c).After-load_station-s))) (set_station s n y)) z)
-
-pub load_station-s-requires : goal.load_station-s-requires
-load_station-s-requires c = let k = at (goal.at.load_station-s-requires c).Else-wide32-station in (k.area.long, k.i_small)
-
-pub bounds-allowances-i : goal.bounds-allowances-i
-bounds-allowances-i c = (at (goal.at.bounds-allowances-i c).Else-wide32-station).i_small
-
-pub bounds-counts-i : goal.bounds-counts-i
-bounds-counts-i c = (at (goal.at.bounds-counts-i c).Else-wide32-station).i_small
-
-pub put_station-requires : goal.put_station-requires
-put_station-requires c = let k = at (goal.at.put_station-requires c).Else-wide32-station in (k.area.long, k.i_small)
+    let l = (goal.at.returns c).After-load_station-s in
+    let k = at l in
+    let i : ℕ = c.in_ok-i.i in
+    let a = c.args.area.now in
+    let g = c.args.register in
+    let z : station_view c.entered-after.result ≡ entered i (station_at (state_at a) i) = c.entered-after.ensures ∙ ap (entered i) (sym (x l)) in
+    rw (← c.in_ok-i.ensures.ok.0)
+    (does k.area (do_enter i g (state_at a))
+    (enter-done _ _ k.area.formed _ _ k.station (rw (allowed l, x l) c.if-config-i.false) (omega (arith, c.if-config-s.false, t_is k.area c.read-config.ensures.header, own l)))
+    (rw c.entry.ensures (ap (λ (y : NetworkStation vector). stepped_of (entry (entry_of 1 i 255 g y 0))) z))
+    (c.put_station.ensures (config_at a) (state_at a) k.area.is ∙ ap (λ (y : NetworkStation vector). image (config_at a) (set_station (state_at a) i y)) z))

@@ -1,125 +1,107 @@
 use Prim.Native.Nat.{ℕ}
-use mathlib.Core.Path.{◌≡◌, ◌∙◌, sym, ap}
+use mathlib.Core.Path.{◌≡◌, refl, ◌∙◌, sym, ap}
 use mathlib.Core.List.{List, []}
 use native.Mathlib.Omega.{arith}
 use lib.ListN.{length, get_or}
+use Rattle.refusals.specs.declared.Refusal.TheVariants.{NoSuchStation}
 use Rattle.clock.specs.Timestamp.{tick}
 use Rattle.reset.specs.Reach.{limit}
-use Rattle.reset.specs.Config.{Config}
 use Rattle.reset.specs.Clock.{vector}
-use Rattle.reset.specs.State.{message, Station as NetworkStation, State, station_at, link_at, set_station, put_on}
+use Rattle.reset.specs.State.{message, Station as NetworkStation, station_at, link_at, set_station, put_on}
 use Rattle.reset.specs.Steps.{entry, entry_of, sending, do_send}
 use Rattle.station.specs.View.{station_view}
 use Rattle.step_outcomes.proofs.Outcome.{send_no_station, send_no_neighbour}
 use Rattle.area.specs.Layout.{image, config_at, state_at}
 use Rattle.step_parts.specs.Answers.{stepped_of}
 use Rattle.enter_send.specs.Sending.{send_refusal}
-use Rattle.step_parts.proofs.Read.{Passed, passed, refuses, does, n_small, t_is, t-small, AtLink, no_link, at_link, limit_is, station_is, count_is}
-use Rattle.enter_send.proofs.SendLaws.{Accepted, send-refused, send-accepted}
+use Rattle.step_parts.proofs.Read.{passed, hands_on, does, t_is, t-small, AtLink, no_link, at_link, limit_is, station_is, count_is}
+use Rattle.enter_send.proofs.SendLaws.{send-refused, send-accepted}
 use Rattle.enter_send.proofs.send.Goals as goal
-use Rattle.enter_send.proofs.send.Goals.{After-limits_of-limits, After-send_refusal-refusal, Else-not-linked, Start}
+use Rattle.enter_send.proofs.send.Goals.{After-count_at-count, In_ok-i}
 
--- the area, which passed its test, and its header and limits read
-module _ (c : goal.After-limits_of-limits) where
-  abbrev start : goal.Start
-  start = c.before.before.before
+-- the area passed its test, and there is such a link
+module _ (c : goal.In_ok-i) where
+  at : AtLink c.args.area.now c.in_ok-i.i c.in_ok-i.j
+  at = at_link (passed _ (λ n. omega (arith, c.slice_known-1.given n)) c.requires) c.read-config.ensures.header c.read-config.ensures.limits _ _ c.in_ok-i.ensures.ok.2
 
+  limited : limit (config_at c.args.area.now).limits c.in_ok-i.i c.in_ok-i.j ≡ get_or (get_or c.read-config.result.limits c.in_ok-i.i []) c.in_ok-i.j 0
+  limited = limit_is at.area c.read-config.ensures.header c.read-config.ensures.limits _ _
+
+-- the station's record is read, and the items on its link are counted
+module _ (c : goal.After-count_at-count) where
   abbrev a : List ℕ
   a = c.args.area.now
 
-  abbrev d : Config
-  d = config_at a
-
-  abbrev s : State vector
-  s = state_at a
-
   abbrev i : ℕ
-  i = c.args.station
+  i = c.in_ok-i.i
 
   abbrev j : ℕ
-  j = c.args.peer
+  j = c.in_ok-i.j
 
-  abbrev g : ℕ
-  g = c.args.register
+  x : station_at (state_at a) i ≡ station_view c.load_station-s.result
+  x = station_is (at c.before.before).area _ (at c.before.before).i_small c.load_station-s.ensures
 
-  known : Passed a
-  known = passed a (λ n. omega (arith, c.slice_known-1.given n)) c.requires
+  n : c.count_at-count.result ≡ length (link_at (state_at a) i j)
+  n = c.count_at-count.ensures ∙ count_is (at c.before.before).area _ _ (at c.before.before).i_small (at c.before.before).j_small
 
--- there is such a link
-module _ (c : goal.Else-not-linked) where
-  abbrev q : goal.After-limits_of-limits
-  q = c.before.before
+  -- what decides the send
+  decides : send_refusal (station_view c.load_station-s.result) c.read-config.result.header.t (get_or (get_or c.read-config.result.limits i []) j 0) c.count_at-count.result i j
+      ≡ send_refusal (station_at (state_at a) i) (config_at a).t (limit (config_at a).limits i j) (length (link_at (state_at a) i j)) i j
+  decides = rw (x, t_is (at c.before.before).area c.read-config.ensures.header, limited c.before.before, ← n)
 
-  at : AtLink (a c.before.before) (i c.before.before) (j c.before.before)
-  at = at_link (known c.before.before) c.header_of-h.ensures c.limits_of-limits.ensures _ _ (sym c.linked.ensures ∙ c.if-not-linked.false)
+pub returns-in_err-i : goal.returns-in_err-i
+returns-in_err-i c =
+    let k = passed _ (λ n. omega (arith, c.slice_known-1.given n)) c.requires in
+    let (e, l) = c.in_err-i.ensures.err in
+    hands_on k NoSuchStation c.from_residual.ensures.1 e
+    (no_link k c.read-config.ensures.header c.read-config.ensures.limits _ _ l (send_no_station _ _ k.formed _ _ _) (send_no_neighbour _ _ k.formed _ _ _))
 
-  limited : limit (d c.before.before).limits (i c.before.before) (j c.before.before) ≡ get_or (get_or c.limits_of-limits.result (i c.before.before) []) (j c.before.before) 0
-  limited = limit_is (known c.before.before) c.header_of-h.ensures c.limits_of-limits.ensures _ _
+pub load_station-s-requires : goal.load_station-s-requires
+load_station-s-requires c = let k = at (goal.at.load_station-s-requires c).In_ok-i in (k.area.long, k.i_small)
 
--- the refusal is decided: the station's record, the items on its link, and what the refusal says of the step
-module _ (c : goal.After-send_refusal-refusal) where
-  abbrev o : goal.Else-not-linked
-  o = c.before.before.before.before
+pub count_at-count-requires : goal.count_at-count-requires
+count_at-count-requires c = let k = at (goal.at.count_at-count-requires c).In_ok-i in (k.area.long, k.i_small, k.j_small)
 
-  abbrev r : goal.After-limits_of-limits
-  r = q c.before.before.before.before
+pub bounds-config-i : goal.bounds-config-i
+bounds-config-i c = (at (goal.at.bounds-config-i c).In_ok-i).i_small
 
-  x : station_at (s r) (i r) ≡ station_view c.load_station-s.result
-  x = station_is (known r) _ (at c.before.before.before.before).i_small c.load_station-s.ensures
+pub bounds-config-j : goal.bounds-config-j
+bounds-config-j c = (at (goal.at.bounds-config-j c).In_ok-i).j_small
 
-  n : c.count_at-count.result ≡ length (link_at (s r) (i r) (j r))
-  n = c.count_at-count.ensures ∙ count_is (known r) _ _ (at c.before.before.before.before).i_small (at c.before.before.before.before).j_small
+pub admit-requires : goal.admit-requires
+admit-requires c =
+    let p = (goal.at.admit-requires c).In_ok-i in
+    ((at p).i_small, (at p).j_small, rw (limited p) at (at p).limit-small)
 
-  refusal : c.send_refusal-refusal.result ≡ send_refusal (station_at (s r) (i r)) (d r).t (limit (d r).limits (i r) (j r)) (length (link_at (s r) (i r) (j r))) (i r) (j r)
-  refusal = rw (x, t_is (known r) c.header_of-h.ensures, limited c.before.before.before.before, ← n) c.send_refusal-refusal.ensures
-
-  accepted : c.send_refusal-refusal.result ≡ 0 → Accepted (d r) (s r) (known r).formed (i r) (j r) (g r) (at c.before.before.before.before).station (at c.before.before.before.before).neighbour
-  accepted = send-accepted _ _ (known r).formed _ _ _ (at c.before.before.before.before).station (at c.before.before.before.before).neighbour _ refusal
-
-pub returns-then-not-linked : goal.returns-then-not-linked
-returns-then-not-linked c =
-    let k = known (goal.at.returns-then-not-linked c).After-limits_of-limits in
-    refuses k
-    (no_link k c.header_of-h.ensures c.limits_of-limits.ensures _ _ (sym c.linked.ensures ∙ c.if-not-linked.true)
-    (send_no_station _ _ k.formed _ _ _) (send_no_neighbour _ _ k.formed _ _ _))
-    c.refused.ensures
-
-pub send_refusal-refusal-requires : goal.send_refusal-refusal-requires
-send_refusal-refusal-requires c = ((at (goal.at.send_refusal-refusal-requires c).Else-not-linked).i_small, (at (goal.at.send_refusal-refusal-requires c).Else-not-linked).j_small, rw (limited (goal.at.send_refusal-refusal-requires c).Else-not-linked) at (at (goal.at.send_refusal-refusal-requires c).Else-not-linked).limit-small)
-
-pub returns-then-refusal-ne0 : goal.returns-then-refusal-ne0
-returns-then-refusal-ne0 c =
-    let k = at (o (goal.at.returns-then-refusal-ne0 c).After-send_refusal-refusal) in
-    refuses k.area (send-refused _ _ k.area.formed _ _ _ k.station k.neighbour _ (refusal (goal.at.returns-then-refusal-ne0 c).After-send_refusal-refusal) c.if-refusal-ne0.true) c.refused-then-refusal-ne0.ensures
+pub returns-in_err-admit : goal.returns-in_err-admit
+returns-in_err-admit c =
+    let k = at (goal.at.returns-in_err-admit c).In_ok-i in
+    let (e, f, l) = c.in_ok-i.ensures.ok in
+    rw (← e, ← f)
+    (hands_on k.area _ c.from_residual-in_err-admit.ensures.1 refl
+    (send-refused _ _ k.area.formed _ _ _ k.station k.neighbour _ (c.admit.ensures ∙ decides (goal.at.returns-in_err-admit c).After-count_at-count) _ c.in_err-admit.was))
 
 pub send_message-requires : goal.send_message-requires
 send_message-requires c =
-    let k = at (o (goal.at.send_message-requires c).After-send_refusal-refusal) in
-    let z = accepted (goal.at.send_message-requires c).After-send_refusal-refusal c.if-refusal-ne0.false in
-    let v = rw (x (goal.at.send_message-requires c).After-send_refusal-refusal) at z.count in
-    let u = rw (x (goal.at.send_message-requires c).After-send_refusal-refusal) at z.sent in
-    (k.area.long, k.i_small, k.j_small, omega (arith, t-small k.area, v), omega (arith, u), omega (arith, n (goal.at.send_message-requires c).After-send_refusal-refusal, c.count_at-count.ensures, z.room))
+    let k = at (goal.at.send_message-requires c).In_ok-i in
+    let p = (goal.at.send_message-requires c).After-count_at-count in
+    let z = send-accepted _ _ k.area.formed _ _ c.args.register k.station k.neighbour _ (c.admit.ensures ∙ decides p) _ c.in_ok-admit.was in
+    let v = rw (x p) at z.count in
+    let u = rw (x p) at z.sent in
+    (k.area.long, k.i_small, k.j_small, omega (arith, t-small k.area, v), omega (arith, k.limit-small, u), omega (arith, n p, c.count_at-count.ensures, k.limit-small, z.room))
 
 pub returns : goal.returns
 returns c =
-    let y = r (goal.at.returns c).After-send_refusal-refusal in
-    let z = c.send_message.ensures in
-    does (known y) (do_send (i y) (j y) (g y) (s y)) (accepted (goal.at.returns c).After-send_refusal-refusal c.if-refusal-ne0.false).done
-    (z.answer ∙ ap (λ (r : NetworkStation vector). stepped_of (entry (entry_of 2 (i y) (j y) (g y) (sending (i y) (j y) r) 0))) (sym (x (goal.at.returns c).After-send_refusal-refusal)))
-    (z.area (d y) (s y) (known y).is
-    ∙ ap (λ (r : NetworkStation vector). image (d y) (put_on (set_station (s y) (i y) (sending (i y) (j y) r)) (i y) (j y) (message (tick (i y) r.time) (g y)))) (sym (x (goal.at.returns c).After-send_refusal-refusal)))
-
-pub linked-requires : goal.linked-requires
-linked-requires c = n_small (known (goal.at.linked-requires c).After-limits_of-limits) c.header_of-h.ensures
-
-pub bounds-limits-i : goal.bounds-limits-i
-bounds-limits-i c = (at (goal.at.bounds-limits-i c).Else-not-linked).i_small
-
-pub load_station-s-requires : goal.load_station-s-requires
-load_station-s-requires c = let k = at (goal.at.load_station-s-requires c).Else-not-linked in (k.area.long, k.i_small)
-
-pub count_at-count-requires : goal.count_at-count-requires
-count_at-count-requires c = let k = at (goal.at.count_at-count-requires c).Else-not-linked in (k.area.long, k.i_small, k.j_small)
-
-pub bounds-row-j : goal.bounds-row-j
-bounds-row-j c = (at (goal.at.bounds-row-j c).Else-not-linked).j_small
+    let k = at (goal.at.returns c).In_ok-i in
+    let p = (goal.at.returns c).After-count_at-count in
+    let s = state_at c.args.area.now in
+    let d = config_at c.args.area.now in
+    let i : ℕ = c.in_ok-i.i in
+    let j : ℕ = c.in_ok-i.j in
+    let g = c.args.register in
+    let m = c.send_message.ensures in
+    let (e, f, l) = c.in_ok-i.ensures.ok in
+    rw (← e, ← f)
+    (does k.area (do_send i j g s) (send-accepted _ _ k.area.formed _ _ _ k.station k.neighbour _ (c.admit.ensures ∙ decides p) _ c.in_ok-admit.was).done
+    (m.answer ∙ ap (λ (r : NetworkStation vector). stepped_of (entry (entry_of 2 i j g (sending i j r) 0))) (sym (x p)))
+    (m.area d s k.area.is ∙ ap (λ (r : NetworkStation vector). image d (put_on (set_station s i (sending i j r)) i j (message (tick i r.time) g))) (sym (x p))))

@@ -23,7 +23,7 @@ returns c =
     let m : NetworkItem vector = message (tick i g.s.counts) g.register in
     let z : station_view c.sending-x.result ≡ x = c.sending-x.ensures in
     record {
-      answer = c.entry.ensures ∙ ap (λ (q : NetworkStation vector). stepped_of (entry (entry_of 2 i j g.register q 0))) z;
+      answer = rw c.entry.ensures (ap (λ (q : NetworkStation vector). stepped_of (entry (entry_of 2 i j g.register q 0))) z);
       area = λ d s e.
           c.put_station.ensures d _ (c.push_at.ensures d s e)
           ∙ ap (λ (q : NetworkStation vector). image d (set_station (put_on s i j (message q.time g.register)) i q)) z

@@ -4,7 +4,7 @@ use Rattle.network.proofs.Laws.{passes, refused, stepped}
 use Rattle.network.proofs.send.Goals as goal
 
 pub returns-then-not-well_formed : goal.returns-then-not-well_formed
-returns-then-not-well_formed c = refused _ c.well_formed-2.ensures (ap not c.if-not-well_formed.true) c.refused.ensures
+returns-then-not-well_formed c = refused _ c.well_formed-2.ensures (ap not c.if-not-well_formed.true)
 
 pub send-requires : goal.send-requires
 send-requires c = passes _ c.well_formed-2.ensures (ap not c.if-not-well_formed.false)

@@ -1,55 +1,39 @@
-use Prim.Native.Nat.{ℕ}
 use mathlib.Core.Path.{◌∙◌, sym, ap₂}
-use mathlib.Core.List.{List}
 use native.Mathlib.Omega.{arith}
+use Rattle.refusals.specs.declared.Refusal.TheVariants.{EmptyLink, NoSuchStation}
 use Rattle.step_outcomes.proofs.Outcome.{recv_no_station, recv_no_neighbour, recv-empty}
 use Rattle.rules.specs.Setup.{header_config}
-use Rattle.step_parts.proofs.Read.{Passed, passed, refuses, n_small, AtLink, no_link, at_link}
+use Rattle.step_parts.proofs.Read.{passed, refuses, hands_on, AtLink, no_link, at_link}
 use Rattle.recv_start.proofs.ReceiptLaws.{holds_none}
 use Rattle.recv_start.proofs.recv.Goals as goal
-use Rattle.recv_start.proofs.recv.Goals.{After-limits_of-limits, Else-not-linked, Start}
+use Rattle.recv_start.proofs.recv.Goals.{In_ok-i}
 
--- the area, which passed its test, and its header and limits read
-module _ (c : goal.After-limits_of-limits) where
-  abbrev start : goal.Start
-  start = c.before.before.before
+-- the area passed its test, and there is such a link
+at : (c : goal.In_ok-i) → AtLink c.args.area.now c.in_ok-i.i c.in_ok-i.j
+at c = at_link (passed _ (λ n. omega (arith, c.slice_known-1.given n)) c.requires) c.read-config.ensures.header c.read-config.ensures.limits _ _ c.in_ok-i.ensures.ok.2
 
-  abbrev a : List ℕ
-  a = c.args.area.now
+pub returns-in_err-i : goal.returns-in_err-i
+returns-in_err-i c =
+    let k = passed _ (λ n. omega (arith, c.slice_known-1.given n)) c.requires in
+    let (e, l) = c.in_err-i.ensures.err in
+    hands_on k NoSuchStation c.from_residual.ensures.1 e
+    (no_link k c.read-config.ensures.header c.read-config.ensures.limits _ _ l (recv_no_station _ _ k.formed _ _) (recv_no_neighbour _ _ k.formed _ _))
 
-  known : Passed a
-  known = passed a (λ n. omega (arith, c.slice_known-1.given n)) c.requires
-
--- there is such a link
-module _ (c : goal.Else-not-linked) where
-  abbrev q : goal.After-limits_of-limits
-  q = c.before.before
-
-  at : AtLink (a c.before.before) c.args.station c.args.peer
-  at = at_link (known c.before.before) c.header_of-h.ensures c.limits_of-limits.ensures _ _ (sym c.linked.ensures ∙ c.if-not-linked.false)
-
-pub returns-then-not-linked : goal.returns-then-not-linked
-returns-then-not-linked c =
-    let k = known (goal.at.returns-then-not-linked c).After-limits_of-limits in
-    refuses k
-    (no_link k c.header_of-h.ensures c.limits_of-limits.ensures _ _ (sym c.linked.ensures ∙ c.if-not-linked.true)
-    (recv_no_station _ _ k.formed _ _) (recv_no_neighbour _ _ k.formed _ _))
-    c.refused.ensures
+pub count_at-requires : goal.count_at-requires
+count_at-requires c = let k = at (goal.at.count_at-requires c).In_ok-i in (k.area.long, k.j_small, k.i_small)
 
 pub returns-then-count_at-eq0 : goal.returns-then-count_at-eq0
 returns-then-count_at-eq0 c =
-    let k = at (goal.at.returns-then-count_at-eq0 c).Else-not-linked in
-    refuses k.area (recv-empty _ _ k.area.formed _ _ k.station k.neighbour (holds_none k (sym c.count_at.ensures ∙ c.if-count_at-eq0.true))) c.refused-then-count_at-eq0.ensures
+    let k = at (goal.at.returns-then-count_at-eq0 c).In_ok-i in
+    let (e, f, l) = c.in_ok-i.ensures.ok in
+    rw (← e, ← f) (refuses k.area EmptyLink (recv-empty _ _ k.area.formed _ _ k.station k.neighbour (holds_none k (sym c.count_at.ensures ∙ c.if-count_at-eq0.true))))
 
 pub take-requires : goal.take-requires
 take-requires c =
-    let k = at (goal.at.take-requires c).Else-not-linked in (
+    let k = at (goal.at.take-requires c).In_ok-i in (
       record { tested = k.area.tested; station = k.station; neighbour = k.neighbour; some = omega (arith, c.count_at.ensures, c.if-count_at-eq0.false) },
-      ap₂ header_config c.header_of-h.ensures c.limits_of-limits.ensures,
+      ap₂ header_config c.read-config.ensures.header c.read-config.ensures.limits,
     )
 
-pub linked-requires : goal.linked-requires
-linked-requires c = n_small (known (goal.at.linked-requires c).After-limits_of-limits) c.header_of-h.ensures
-
-pub count_at-requires : goal.count_at-requires
-count_at-requires c = let k = at (goal.at.count_at-requires c).Else-not-linked in (k.area.long, k.j_small, k.i_small)
+pub returns : goal.returns
+returns c = let (e, f, l) = c.in_ok-i.ensures.ok in rw (← e, ← f) c.take.ensures

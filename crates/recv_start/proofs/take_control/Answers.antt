@@ -3,6 +3,7 @@ use mathlib.Core.Path.{◌≡◌, refl, ◌∙◌, sym, ap}
 use mathlib.Core.List.{List}
 use native.Mathlib.Omega.{arith}
 use lib.ListN.{length}
+use Rattle.refusals.specs.declared.Refusal.TheVariants.{IllFormedState}
 use Rattle.reset.specs.Clock.{vector}
 use Rattle.reset.specs.State.{Item, link_at, set_link}
 use Rattle.reset_rules.specs.Turn.{turned}
@@ -29,15 +30,14 @@ module _ (c : goal.After-slice_known-1) where
 
 -- the rules are done
 turns : (c : goal.After-turn-t) → turned_view c.turn-t.result ≡ turned (config_at c.args.area.now) c.args.i (station_view c.args.x)
-turns c = c.turn-t.ensures.0 (config_at c.args.area.now) (sym c.requires.1)
+turns c = c.turn-t.ensures (config_at c.args.area.now) (sym c.requires.1)
 
 pub returns-then-not-in_bounds : goal.returns-then-not-in_bounds
 returns-then-not-in_bounds c = λ y q e time marks.
     let k = at (goal.at.returns-then-not-in_bounds c).After-slice_known-1 in
-    refuses k.area
+    refuses k.area IllFormedState
     (mark_refused _ _ k.area.formed _ _ k.station k.neighbour (station_view c.args.x) y q e time marks
     (sym (tests k.area _ k.i_small c.requires.1 c.turn-t.result _ (turns (goal.at.returns-then-not-in_bounds c).After-turn-t)) ∙ sym c.in_bounds.ensures ∙ c.if-not-in_bounds.true))
-    c.refused.ensures
 
 pub take_at-requires : goal.take_at-requires
 take_at-requires c =
@@ -64,12 +64,6 @@ returns c = λ y q e time marks.
 
 pub turn-t-requires : goal.turn-t-requires
 turn-t-requires c = ((at (goal.at.turn-t-requires c).After-slice_known-1).i_small, c.requires.2)
-
-pub offset_bounds-limits-i : goal.offset_bounds-limits-i
-offset_bounds-limits-i c = let k = at (goal.at.offset_bounds-limits-i c).After-slice_known-1 in omega arith
-
-pub bounds-limits-i : goal.bounds-limits-i
-bounds-limits-i c = (at (goal.at.bounds-limits-i c).After-slice_known-1).i_small
 
 pub in_bounds-requires : goal.in_bounds-requires
 in_bounds-requires c = let k = at (goal.at.in_bounds-requires c).After-slice_known-1 in (k.area.long, k.i_small)

@@ -1,4 +1,3 @@
-use Prim.Native.Nat.{◌-◌}
 use mathlib.Core.Path.{◌≡◌, sym}
 use native.Mathlib.Omega.{arith}
 use Rattle.codec.proofs.EveryLaws.{every_none}
@@ -7,7 +6,7 @@ use Rattle.step_parts.specs.Room.{room_bytes}
 use Rattle.step_parts.proofs.turned.room.Goals as goal
 
 pub loop-j-preserved : goal.loop-j-preserved
-loop-j-preserved c = (omega arith, rw (every_turn, c.loop-j.invariant.1, c.wide32-count.ensures.0, c.places.ensures.0, c.count_at.ensures))
+loop-j-preserved c = (omega arith, rw (every_turn, c.loop-j.invariant.1, c.from-count.ensures, c.places.ensures.0, c.count_at.ensures))
 
 pub returns : goal.returns
 unfolding room_bytes

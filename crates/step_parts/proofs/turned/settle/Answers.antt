@@ -1,4 +1,3 @@
-use mathlib.Core.Path.{refl, ◌∙◌}
 use Rattle.step_parts.proofs.TurnedLaws.{mode_code_lem, room-set}
 use Rattle.step_parts.proofs.turned.settle.Goals as goal
 
@@ -9,4 +8,4 @@ put_controls-requires c =
 
 pub returns : goal.returns
 returns c =
-    record { answer = c.in_mode.ensures ∙ rw mode_code_lem refl; area = λ d s l p. c.put_controls.ensures d _ l (c.put_station.ensures d s p) }
+    record { answer = rw (c.in_mode.ensures, mode_code_lem); area = λ d s l p. c.put_controls.ensures d _ l (c.put_station.ensures d s p) }
