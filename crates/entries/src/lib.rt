@@ -1,4 +1,7 @@
 // The entries block of an archive: 512 bytes with one to fifteen records.
+//
+// A block is lent as plain bytes, and its length is required of each caller, who proves it of the part that is lent. A type for it
+// would be no plainer: the check and the numbers in a block are read from bytes.
 #![tactic(auto)]
 
 ghost use Rattle.std.specs.Prelude.{◌≡◌, ◌≤◌, ◌<◌, ◌*◌, length};
