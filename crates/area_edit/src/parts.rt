@@ -1,4 +1,5 @@
-// Parts of the state area read and changed in place: each change writes its part and no other.
+// Parts of the state area read and changed in place: each change writes its part and no other. The area is lent by a caller as a slice, whose length
+// the calls for people outside refuse or take; a type of that length would be made anew from the slice at each of them.
 ghost use Rattle.std.specs.Prelude.{◌≡◌, List, ◌∷◌, ◌+◌, ◌*◌, ◌<◌, ◌≤◌, length, get_or};
 ghost use Rattle.reset.specs.Config.{Config};
 ghost use Rattle.reset.specs.Clock.{vector};

@@ -1,4 +1,5 @@
-// A queue of items of one width in lent bytes: the count of its items, the items packed from the front, zeros after the last.
+// A queue of items of one width in lent bytes: the count of its items, the items packed from the front, zeros after the last. The part of a caller's
+// area is the queue, with no memory of its own, so there is no type for it.
 #![tactic(auto)]
 
 ghost use Rattle.std.specs.Prelude.{◌≡◌, ◌++◌, ◌+◌, ◌*◌, ◌-◌, ◌<◌, ◌≤◌, length, drop, get_or};

@@ -182,34 +182,22 @@ fn turn_once(row: [u8; 8], t: Turned) -> Turned
 {
     let s = t.station;
     match s.mode {
-        Mode::Mute => {
-            if every_seen(row, s.reqs) {
-                return Turned {
-                    station: renew(s),
-                    second: Some(Control::ResetDone),
-                    ..t
-                };
-            }
-        }
-        Mode::StandBy => {
-            if every_seen(row, s.dones) {
-                return Turned {
-                    station: wake(s),
-                    ..t
-                };
-            }
-        }
-        Mode::Normal => {
-            if some_seen(row, s.reqs) {
-                return Turned {
-                    station: begin(s),
-                    first: Some(Control::ResetReq),
-                    ..t
-                };
-            }
-        }
+        Mode::Mute if every_seen(row, s.reqs) => Turned {
+            station: renew(s),
+            second: Some(Control::ResetDone),
+            ..t
+        },
+        Mode::StandBy if every_seen(row, s.dones) => Turned {
+            station: wake(s),
+            ..t
+        },
+        Mode::Normal if some_seen(row, s.reqs) => Turned {
+            station: begin(s),
+            first: Some(Control::ResetReq),
+            ..t
+        },
+        _ => t,
     }
-    t
 }
 
 // The rules tried from the first again after each that applies: three at most do.

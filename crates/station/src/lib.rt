@@ -62,6 +62,7 @@ pub struct Station {
     pub mode: Mode,
 }
 
+// Written out: arrays have no `map` here.
 fn marks_at(part: &[u8], at: usize) -> [bool; 8]
     requires { at + 8 ≤ length part.now }
     ensures { result ≡ upto 8 (mark_at part.now at) }
