@@ -10,10 +10,10 @@ use Rattle.well_kept.proofs.follows.Goals as goal
 next : (p v : ℕ) → p < v → eqb (v - p) 1 ≡ eqb v (p + 1)
 next p v l = bool_iff _ _ (λ h. let e = eqb-true (v - p) 1 h in eq-eqb v (p + 1) (omega arith)) (λ h. let e = eqb-true v (p + 1) h in eq-eqb (v - p) 1 (omega arith))
 
-pub returns-then-v-p : goal.returns-then-v-p
+pub returns-then-p-v : goal.returns-then-p-v
 unfolding follows
-returns-then-v-p c = rw (le-ltb c.args.p c.args.v (omega arith))
+returns-then-p-v c = rw (lt-ltb c.args.p c.args.v (omega arith), next c.args.p c.args.v (omega arith))
 
-pub returns : goal.returns
+pub returns-else-p-v : goal.returns-else-p-v
 unfolding follows
-returns c = rw (lt-ltb c.args.p c.args.v (omega arith), next c.args.p c.args.v (omega arith))
+returns-else-p-v c = rw (le-ltb c.args.p c.args.v (omega arith))

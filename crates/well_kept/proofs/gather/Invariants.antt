@@ -1,12 +1,10 @@
-use Prim.Native.Nat.{◌-◌, ◌≤◌}
 use mathlib.Core.Path.{◌≡◌}
+use Prim.Native.Nat.{◌≤◌}
 use lib.ListN.{length}
-use Rattle.events.specs.Places.{InPlace}
+use Rattle.archive.specs.Archive.{records}
 use Rattle.well_kept.specs.Windows.{Gathered}
 use Rattle.well_kept.proofs.gather.Given as goal
 
 abbrev pub invariant-loop-p : goal.invariant-loop-p
-invariant-loop-p l = (l.p.number ≤ l.n) × InPlace l.p × (length l.list ≡ length l.initial.list) × Gathered l.a l.lo l.hi l.p.number l.w l.list
-
-abbrev pub decreases-loop-p : goal.decreases-loop-p
-decreases-loop-p l = l.n - l.p.number
+invariant-loop-p l = (l.p-iterator.end ≡ records l.archive.bytes.now) × (l.p-iterator.first.number ≤ l.p-iterator.end) × (length l.list ≡ length l.initial.list)
+    × Gathered l.archive.bytes.now l.lo l.hi l.p-iterator.first.number l.w l.list

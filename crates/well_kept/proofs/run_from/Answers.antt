@@ -1,7 +1,7 @@
 use Prim.Native.Nat.{ℕ, ◌+◌, ◌≤◌, ◌<◌}
 use mathlib.Core.Path.{◌≡◌, refl, sym, ◌∙◌}
 use mathlib.Core.List.{List, [], ◌∷◌}
-use mathlib.Core.Bool.{true, false, true≢false}
+use mathlib.Core.Bool.{true, false}
 use native.Mathlib.Omega.{arith}
 use native.Mathlib.Numerals.{add-one}
 use lib.ListN.{length, get_or, drop, drop_of_length-le}
@@ -26,16 +26,14 @@ module _ {last : ℕ} {list : List ℕ} {before i : ℕ} (w : Runs last list bef
   unfolding runs_on
   runs_all l = let e : drop i list ≡ [] = drop_of_length-le list l in (w.runs ∙ rw e, w.ends ∙ rw e)
 
-pub loop-i-init : goal.loop-i-init
-loop-i-init c = (omega arith, record { runs = refl; ends = refl })
+pub loop-key-init : goal.loop-key-init
+loop-key-init c = record { runs = refl; ends = refl }
 
 pub returns-then-not-follows : goal.returns-then-not-follows
-returns-then-not-follows c =
-    let e : runs_on _ _ ≡ false = runs-not c.loop-i.invariant.1 _ c.loop-i-test.true refl (sym c.follows.ensures ∙ c.if-not-follows.true) in
-    (sym e, λ h. absurd (true≢false (sym h)))
+returns-then-not-follows c = runs-not c.loop-key.invariant _ (omega arith) refl (sym c.follows.ensures ∙ c.if-not-follows.true)
 
-pub loop-i-preserved : goal.loop-i-preserved
-loop-i-preserved c = (omega arith, runs_more c.loop-i.invariant.1 _ c.loop-i-test.true refl (sym c.follows.ensures ∙ c.if-not-follows.false))
+pub loop-key-preserved : goal.loop-key-preserved
+loop-key-preserved c = runs_more c.loop-key.invariant _ (omega arith) refl (sym c.follows.ensures ∙ c.if-not-follows.false)
 
 pub returns : goal.returns
-returns c = let e = runs_all c.loop-i.invariant.1 (omega arith) in (sym e.0, λ h. sym e.1)
+returns c = let e = runs_all c.loop-key.invariant (omega arith) in (e.0, sym e.1)

@@ -6,7 +6,7 @@ use Rattle.well_kept.specs.Windows.{Checked}
 use Rattle.well_kept.proofs.windows_kept.Given as goal
 
 abbrev pub invariant-loop-lo : goal.invariant-loop-lo
-invariant-loop-lo l = (l.lo < no_key) × (1 ≤ l.span) × (l.span ≤ no_key) × (length l.list ≡ l.places) × Checked l.a l.lo l.last
+invariant-loop-lo l = (l.lo < no_key) × (1 ≤ l.span) × (l.span ≤ no_key) × (length l.list ≡ l.places) × Checked l.archive.bytes.now l.lo l.last
 
 -- the next window starts later, or is narrower
 abbrev pub decreases-loop-lo : goal.decreases-loop-lo
