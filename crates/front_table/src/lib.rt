@@ -24,12 +24,12 @@ fn limit(head: &[u8], kind: Kind, s: usize, p: usize) -> u8
 }
 
 // The records of a kind with peer p, one for each station.
-fn fill(r: &mut [u32; 256], head: &[u8], kind: Kind, p: usize)
+fn fill(r: &mut [u32; 256], head: &[u8], n: u8, kind: Kind, p: usize)
     requires { (length r.old ≡ 256) × (length head.now ≡ 512) × (2 ≤ kind_byte kind) × (p < 8) }
-    ensures { Row (parse_header head.now).n (table_at 8 head.now 32) (kind_byte kind * 8 + p) 8 r.old r.new }
+    ensures { Row n (table_at 8 head.now 32) (kind_byte kind * 8 + p) 8 r.old r.new }
 {
     let number = usize::from(u8::from(kind));
-    let top = usize::from(head[1]);
+    let top = usize::from(n);
     for s in 0..8 {
         let stands = (p < top) & (s != p) & (0 < limit(head, kind, s, p));
         let front = if stands {
@@ -43,15 +43,15 @@ fn fill(r: &mut [u32; 256], head: &[u8], kind: Kind, p: usize)
 
 // The first four bytes of the records that a header allows, as numbers, each in the place where it is looked up; elsewhere
 // a number that is looked up in another place. A station that the header lacks has no count, which shuts its records out.
-fn fronts(head: &[u8]) -> [u32; 256]
+pub fn fronts(head: &[u8], n: u8) -> [u32; 256]
     requires { length head.now ≡ 512 }
-    ensures { Fronts (parse_header head.now).n (table_at 8 head.now 32) result }
+    ensures { Fronts n (table_at 8 head.now 32) result }
 {
     let mut r = [ELSEWHERE as u32; 256];
     for p in 0..8 {
         r[56 + p] = (16711681 + 256 * p) as u32;
-        fill(&mut r, head, Kind::Sent, p);
-        fill(&mut r, head, Kind::Received, p);
+        fill(&mut r, head, n, Kind::Sent, p);
+        fill(&mut r, head, n, Kind::Received, p);
     }
     r
 }
@@ -72,7 +72,7 @@ impl<'a> Allowed<'a> {
     {
         Allowed {
             head,
-            fronts: fronts(head),
+            fronts: fronts(head, head[1]),
         }
     }
 }

@@ -2,7 +2,7 @@ use Prim.Native.Nat.{◌+◌, ◌*◌}
 use mathlib.Core.Path.{◌≡◌, ◌∙◌, sym}
 use native.Mathlib.Omega.{arith}
 use Rattle.record.specs.Record.{kind_byte}
-use Rattle.header.specs.Header.{parse_header, table_at}
+use Rattle.header.specs.Header.{table_at}
 use Rattle.front_table.specs.Fronts.{may_stand, front_of}
 use Rattle.front_table.proofs.TableLaws.{linked_at, kind-high, row_none, row_more}
 use Rattle.front_table.proofs.fill.Goals as goal
@@ -11,7 +11,7 @@ use Rattle.front_table.proofs.fill.Goals.{then-stands, else-stands}
 pub loop-s-init : goal.loop-s-init
 loop-s-init c =
     let a = c.args in
-    (omega arith, row_none (parse_header a.head.now).n (table_at 8 a.head.now 32) (kind_byte a.kind * 8 + a.p) a.r.now)
+    (omega arith, row_none a.n (table_at 8 a.head.now 32) (kind_byte a.kind * 8 + a.p) a.r.now)
 
 pub limit-requires : goal.limit-requires
 limit-requires c = (c.requires.1, omega arith, omega arith)
@@ -22,7 +22,7 @@ loop-s-preserved c =
     let a = c.args in
     let l = c.loop-s in
     let m = table_at 8 a.head.now 32 in
-    let n = (parse_header a.head.now).n in
+    let n = a.n in
     let k = kind_byte a.kind in
     let q : c.from-number.result ≡ k = c.from-number.ensures ∙ c.from.ensures in
     let e = linked_at k l.s a.p (omega arith) (kind-high a.kind) (omega arith) (omega arith) n m in
