@@ -13,8 +13,9 @@ use Rattle.clock.proofs.OrderLaws.{verdict_mirror}
 use Rattle.record.specs.declared.Record.{Record}
 use Rattle.archive.specs.Archive.{archive_test, records}
 use Rattle.events.specs.Events.{event_at}
-use Rattle.verdict.specs.declared.Compared.{Compared}
-use Rattle.verdict.specs.declared.Compared.TheVariants.{Ordered, Refused}
+use Rattle.std.specs.Prelude.{Result, Ok, Err}
+use Rattle.clock.specs.declared.Verdict.{Verdict}
+use Rattle.refusals.specs.declared.Refusal.{Refusal}
 use Rattle.well_kept.specs.WellKept.{well_kept}
 use Rattle.phase_order.specs.PhaseOrder.{precedes, verdict_between}
 use Rattle.phase_order.specs.ByNumber.{order_of}
@@ -60,9 +61,9 @@ between-mirror a x y = go (dec_lt x.phase y.phase) (dec_lt y.phase x.phase)
         rw (one_phase a y x (sym e), one_phase a x y e) (verdict_mirror x.counts y.counts)
 
 -- ---- by number
-abbrev pub mirrored : Compared → Compared
-mirrored (Ordered v) = Ordered (mirror v)
-mirrored (Refused k) = Refused k
+abbrev pub mirrored : Result Verdict Refusal → Result Verdict Refusal
+mirrored (Ok v) = Ok (mirror v)
+mirrored (Err k) = Err k
 
 pub order-mirror : (a : List ℕ) (i j : ℕ) → order_of a j i ≡ mirrored (order_of a i j)
 unfolding order_of
@@ -80,11 +81,11 @@ order-mirror a i j = go (archive_test a) refl (ltb i (records a)) refl (ltb j (r
     go true t true e true f true w = rw (t, w, e, f, between-mirror a (event_at a i) (event_at a j))
 
 -- a tested archive that is well kept tells the verdict
-pub order_is : (a : List ℕ) (i j : ℕ) → archive_test a ≡ true → i < records a → j < records a → well_kept a ≡ true → order_of a i j ≡ Ordered (verdict_between a (event_at a i) (event_at a j))
+pub order_is : (a : List ℕ) (i j : ℕ) → archive_test a ≡ true → i < records a → j < records a → well_kept a ≡ true → order_of a i j ≡ Ok (verdict_between a (event_at a i) (event_at a j))
 unfolding order_of
 order_is a i j t l m k = rw (t, lt-ltb i (records a) l, lt-ltb j (records a) m, k)
 
 -- within one phase: timestamp order
 pub order_one_phase : (a : List ℕ) (i j : ℕ) → archive_test a ≡ true → i < records a → j < records a → well_kept a ≡ true → (event_at a i).phase ≡ (event_at a j).phase
-    → order_of a i j ≡ Ordered (verdict_of (event_at a i).counts (event_at a j).counts)
+    → order_of a i j ≡ Ok (verdict_of (event_at a i).counts (event_at a j).counts)
 order_one_phase a i j t l m k e = order_is a i j t l m k ∙ rw (one_phase a (event_at a i) (event_at a j) e)

@@ -25,13 +25,13 @@ none_more {table} {reached} {i} h e = record { even = λ j l z. go j l z (ℕ_di
         alone false q = refl
 
 pub loop-i-init : goal.loop-i-init
-loop-i-init c = (omega arith, record { even = λ j l. absurd (omega arith) })
+loop-i-init c = record { even = λ j l. absurd (omega arith) }
 
 pub returns-then-table-i : goal.returns-then-table-i
-returns-then-table-i c = (omega arith, λ j l. c.loop-i.invariant.1.even j (omega arith))
+returns-then-table-i c = (omega arith, λ j l. c.loop-i.invariant.even j (omega arith))
 
 pub loop-i-preserved : goal.loop-i-preserved
-loop-i-preserved c = (omega arith, none_more c.loop-i.invariant.1 c.if-table-i.false)
+loop-i-preserved c = none_more c.loop-i.invariant c.if-table-i.false
 
 pub returns : goal.returns
-returns c = (omega arith, λ j l. c.loop-i.invariant.1.even j (omega arith))
+returns c j l = c.loop-i.invariant.even j (omega arith)

@@ -1,7 +1,7 @@
-use Prim.Native.Nat.{ℕ, ◌-◌, ◌%◌, ◌≤◌, ◌<◌}
+use Prim.Native.Nat.{ℕ, ◌%◌, ◌<◌}
 use mathlib.Core.Path.{◌≡◌}
 use mathlib.Core.List.{List}
-use lib.ListN.{length, get_or}
+use lib.ListN.{get_or}
 use Rattle.phase_order.proofs.first_join.Given as goal
 
 -- up to place i none joins
@@ -9,7 +9,4 @@ pub record None (table reached : List ℕ) (i : ℕ) : Type 0 where
   pub even : (j : ℕ) → j < i → get_or reached (j % 8) 0 ≡ 0 → get_or table j 0 % 2 ≡ 0
 
 abbrev pub invariant-loop-i : goal.invariant-loop-i
-invariant-loop-i l = (l.i ≤ length l.table) × None l.table l.reached l.i
-
-abbrev pub decreases-loop-i : goal.decreases-loop-i
-decreases-loop-i l = length l.table - l.i
+invariant-loop-i l = None l.table l.reached l.i

@@ -1,4 +1,4 @@
-use Prim.Native.Nat.{ℕ, ◌+◌, ◌*◌, ◌-◌, ◌%◌, ◌≤◌, ◌<◌}
+use Prim.Native.Nat.{ℕ, ◌+◌, ◌*◌, ◌%◌, ◌≤◌, ◌<◌}
 use mathlib.Core.Path.{◌≡◌}
 use mathlib.Core.List.{List}
 use mathlib.Core.Bool.{cond}
@@ -13,7 +13,4 @@ pub record Joined (table : List ℕ) (q : ℕ) (before : List ℕ) (k : ℕ) (af
   pub left : (s : ℕ) → k ≤ s → get_or after s 0 ≡ get_or before s 0
 
 abbrev pub invariant-loop-s : goal.invariant-loop-s
-invariant-loop-s l = (l.s ≤ 8) × Joined l.table l.q l.initial.r l.s l.r
-
-abbrev pub decreases-loop-s : goal.decreases-loop-s
-decreases-loop-s l = 8 - l.s
+invariant-loop-s l = Joined l.table l.q l.initial.joined l.s l.joined

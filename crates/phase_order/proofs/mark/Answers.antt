@@ -4,6 +4,7 @@ use mathlib.Core.List.{List}
 use native.Mathlib.Omega.{arith}
 use lib.ListN.{length, get_or, set, length-set}
 use mathlib.Core.Bool.{Bool, true, false, cond}
+use mir.Val.{bool_byte}
 use Rattle.record.specs.declared.Record.{Record}
 use Rattle.events.specs.Events.{event_at, station_at, own_at}
 use Rattle.phase_order.specs.Passes.{meets, marked, Table}
@@ -48,6 +49,10 @@ flag_small : (b : Bool) → cond b 1 0 ≤ 1
 flag_small true = omega arith
 flag_small false = omega arith
 
+flag_is : (b : Bool) → bool_byte b ≡ cond b 1 0
+flag_is true = refl
+flag_is false = refl
+
 pub returns-then-e-from : goal.returns-then-e-from
 returns-then-e-from c = (refl, λ a n is o w. early _ _ _ _ c.requires _ a n is o w c.if-e-from.true)
 
@@ -60,11 +65,11 @@ returns-then-wide-table c =
     (refl, λ a n is o w. under _ _ _ _ c.requires _ a n is o w c.if-e-from.false c.if-table-i.false (omega arith))
 
 pub overflow_add-table : goal.overflow_add-table
-overflow_add-table c = omega (arith, c.flag.ensures, flag_small c.meets.result)
+overflow_add-table c = omega (arith, c.from.ensures ∙ flag_is c.meets.result, flag_small c.meets.result)
 
 pub shape_of-table : goal.shape_of-table
 shape_of-table c = simp length-set
 
 pub returns : goal.returns
 returns c =
-    (simp length-set, λ a n is o w. above _ _ _ _ c.requires _ a n is o w c.if-e-from.false c.if-table-i.false _ (omega arith) (rw (c.flag.ensures, c.meets.ensures)))
+    (simp length-set, λ a n is o w. above _ _ _ _ c.requires _ a n is o w c.if-e-from.false c.if-table-i.false _ (omega arith) (rw (c.from.ensures ∙ flag_is c.meets.result, c.meets.ensures)))

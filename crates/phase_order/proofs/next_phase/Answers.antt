@@ -6,7 +6,6 @@ use native.Mathlib.Omega.{arith}
 use native.Mathlib.Decide.{ℕ_discrete}
 use lib.ListN.{get_or}
 use Rattle.record.specs.declared.Record.{Record}
-use Rattle.archive.specs.Archive.{records}
 use Rattle.events.specs.Events.{event_at, station_at}
 use Rattle.events.proofs.Laws.{station-small}
 use Rattle.phase_order.specs.Passes.{meets, NoneMeets}
@@ -23,36 +22,26 @@ none_more {a} {r} {f} {g} {n} w h e le is one = record { none = λ i l lo hi z. 
 
 pub loop-p-init : goal.loop-p-init
 loop-p-init c =
-    let f = c.first_place-p.ensures in
-    (omega arith, f.0, c.requires.1, omega arith, rw f.1 (record { none = λ i l. absurd (omega arith) }))
+    let o = c.of-p-items.ensures in
+    let i = c.into_iter-p-iterator.ensures.into_iter_gives in
+    rw i (o.1, omega arith, c.requires, omega arith, rw o.0 (record { none = λ i l. absurd (omega arith) }))
 
 pub event_of-requires : goal.event_of-requires
-event_of-requires c =
-    (c.requires.0, c.loop-p.invariant.1, omega (arith, c.records-n.ensures))
+event_of-requires c = omega (arith, c.in-Some.ensures.steps.1.1, c.loop-p.invariant.0)
 
 pub nearer-best-requires : goal.nearer-best-requires
 unfolding station_at
 nearer-best-requires c =
-    (rw c.event_of.ensures (station-small c.args.a.now c.requires.0 c.loop-p.p.number (omega (arith, c.records-n.ensures))), c.loop-p.invariant.2)
-
-pub next_place-p-requires : goal.next_place-p-requires
-next_place-p-requires c = (c.loop-p.invariant.1, omega (arith, c.loop-p-test.true))
-
-pub loop-p-smaller : goal.loop-p-smaller
-loop-p-smaller c = omega (arith, c.loop-p-test.true, c.next_place-p.ensures.1)
+    let a = c.args.archive in
+    (rw c.event_of.ensures (station-small a.bytes.now a.tested c.in-Some.p.number (omega (arith, c.in-Some.ensures.steps.1.1, c.loop-p.invariant.0))), c.loop-p.invariant.2)
 
 pub loop-p-preserved : goal.loop-p-preserved
 loop-p-preserved c =
-    let n = c.next_place-p.ensures in
+    let n = c.in-Some.ensures.steps in
     let g = c.nearer-best.ensures in (
-      omega (arith, c.loop-p-test.true),
-      n.0,
+      n.0 ∙ c.loop-p.invariant.0,
+      omega (arith, n.0, n.1.1, n.1.2),
       g.0,
       omega (arith, g.1, c.loop-p.invariant.3),
-      rw n.1 (none_more c.loop-p.invariant.4 _ _ g.1 (sym c.event_of.ensures) g.2),
+      rw n.1.2 (none_more (rw (sym n.1.0) at c.loop-p.invariant.4) _ _ g.1 (sym c.event_of.ensures) g.2),
     )
-
-pub returns : goal.returns
-returns c =
-    let e : c.loop-p.p.number ≡ records c.args.a.now = omega (arith, c.records-n.ensures, c.loop-p-test.false) in
-    (c.loop-p.invariant.2, c.loop-p.invariant.3, rw e at c.loop-p.invariant.4)

@@ -1,66 +1,53 @@
-use Prim.Native.Nat.{◌<◌}
+use Prim.Native.Nat.{ℕ, max, ◌≤◌, ◌<◌}
 use mathlib.Core.Path.{◌≡◌, ◌∙◌, sym}
-use mathlib.Core.Bool.{true}
-use borrow.Author.Tests.{lt-ltb, le-ltb}
+use mathlib.Core.Bool.{false, ◌&&◌, and-false}
 use native.Mathlib.Omega.{arith}
-use Rattle.archive.specs.Archive.{archive_test, records}
-use Rattle.events.specs.Events.{station_at, own_at}
-use Rattle.events.proofs.Laws.{station-small, own_some}
+use native.Mathlib.Decide.{dec_le}
+use lib.Dec.{ltb}
+use borrow.Author.Tests.{lt-ltb, le-ltb}
+use Rattle.std.proofs.lemmas.Result.{err_from_is_err_and}
+use Rattle.archive.specs.Archive.{records}
 use Rattle.phase_order.specs.ByNumber.{order_of}
 use Rattle.phase_order.proofs.Laws.{order_is}
 use Rattle.phase_order.proofs.order_of.Goals as goal
-use Rattle.phase_order.proofs.order_of.Goals.{Else-n-second}
 
--- ---- where it has both records
-module _ (c : goal.Else-n-second) where
-  first_in : c.args.first < records c.args.archive.now
-  first_in = omega (arith, c.records-n.ensures, c.if-n-first.false)
+-- one of two numbers is of no record where the greater is not
+not_both : (i j n : ℕ) → n ≤ max i j → (ltb i n && ltb j n) ≡ false
+not_both i j n h = go (dec_le n i)
+  where
+    go : Dec (n ≤ i) → (ltb i n && ltb j n) ≡ false
+    go (yes l) = rw (le-ltb i n l)
+    go (no l) = rw (le-ltb j n (omega (arith, l))) (and-false (ltb i n))
 
-  second_in : c.args.second < records c.args.archive.now
-  second_in = omega (arith, c.records-n.ensures, c.if-n-second.false)
+pub returns-in_err-archive : goal.returns-in_err-archive
+unfolding order_of
+returns-in_err-archive c =
+    let p = err_from_is_err_and c.from_residual.result c.from_residual.ensures.1 in
+    let e = c.in_err-archive.ensures.err in
+    rw (p.1, p.2, e.0) (rw e.1)
 
-  known : archive_test c.args.archive.now ≡ true
-  known = sym c.test.ensures ∙ c.if-not-test.false
+pub returns-then-records-max : goal.returns-then-records-max
+unfolding order_of
+returns-then-records-max c =
+    let t = c.in_ok-archive.archive in
+    rw (← c.in_ok-archive.ensures.ok, t.tested, ← c.records.ensures, not_both c.args.first c.args.second c.records.result (omega (arith, c.max.ensures, c.if-records-max.true)))
 
 pub returns-then-not-test : goal.returns-then-not-test
 unfolding order_of
-returns-then-not-test c = rw (sym c.test.ensures ∙ c.if-not-test.true)
+returns-then-not-test c =
+    let a = c.in_ok-archive.archive in
+    let i : c.args.first < records a.bytes.now = omega (arith, c.records.ensures, c.max.ensures, c.if-records-max.false) in
+    let j : c.args.second < records a.bytes.now = omega (arith, c.records.ensures, c.max.ensures, c.if-records-max.false) in
+    rw (← c.in_ok-archive.ensures.ok, a.tested, lt-ltb _ _ i, lt-ltb _ _ j, sym c.test.ensures ∙ c.if-not-test.true)
 
-pub records-n-requires : goal.records-n-requires
-records-n-requires c = sym c.test.ensures ∙ c.if-not-test.false
+pub event_of-x-requires : goal.event_of-x-requires
+event_of-x-requires c = omega (arith, c.records.ensures, c.max.ensures, c.if-records-max.false)
 
-pub returns-then-n-first : goal.returns-then-n-first
-unfolding order_of
-returns-then-n-first c = rw (sym c.test.ensures ∙ c.if-not-test.false, ← c.records-n.ensures, le-ltb _ _ c.if-n-first.true)
-
-pub returns-then-n-second : goal.returns-then-n-second
-unfolding order_of
-returns-then-n-second c = rw (sym c.test.ensures ∙ c.if-not-test.false, ← c.records-n.ensures, lt-ltb _ _ c.if-n-first.false, le-ltb _ _ c.if-n-second.true)
-
-pub test-requires-2 : goal.test-requires-2
-test-requires-2 c = known (goal.at.test-requires-2 c).Else-n-second
-
-pub returns-then-not-test-2 : goal.returns-then-not-test-2
-unfolding order_of
-returns-then-not-test-2 c =
-    let p = (goal.at.returns-then-not-test-2 c).Else-n-second in
-    rw (known p, lt-ltb _ _ (first_in p), lt-ltb _ _ (second_in p), sym c.test-2.ensures ∙ c.if-not-test-2.true)
-
-pub event_at-x-requires : goal.event_at-x-requires
-event_at-x-requires c = (known (goal.at.event_at-x-requires c).Else-n-second, first_in (goal.at.event_at-x-requires c).Else-n-second)
-
-pub event_at-y-requires : goal.event_at-y-requires
-event_at-y-requires c = (known (goal.at.event_at-y-requires c).Else-n-second, second_in (goal.at.event_at-y-requires c).Else-n-second)
-
-pub verdict_between-requires : goal.verdict_between-requires
-unfolding station_at own_at
-verdict_between-requires c =
-    let p = (goal.at.verdict_between-requires c).Else-n-second in
-    let a = c.args.archive.now in
-    rw (c.event_at-y.ensures, c.event_at-x.ensures)
-    (known p, station-small a (known p) c.args.first (first_in p), own_some a (known p) c.args.first (first_in p), station-small a (known p) c.args.second (second_in p), own_some a (known p) c.args.second (second_in p))
+pub event_of-y-requires : goal.event_of-y-requires
+event_of-y-requires c = omega (arith, c.records.ensures, c.max.ensures, c.if-records-max.false)
 
 pub returns : goal.returns
 returns c =
-    let p = (goal.at.returns c).Else-n-second in
-    rw (order_is c.args.archive.now c.args.first c.args.second (known p) (first_in p) (second_in p) (sym c.test-2.ensures ∙ c.if-not-test-2.false), ← c.event_at-x.ensures, ← c.event_at-y.ensures, ← c.verdict_between.ensures)
+    let a = c.in_ok-archive.archive in
+    let e = order_is a.bytes.now c.args.first c.args.second a.tested (omega (arith, c.records.ensures, c.max.ensures, c.if-records-max.false)) (omega (arith, c.records.ensures, c.max.ensures, c.if-records-max.false)) (sym c.test.ensures ∙ c.if-not-test.false) in
+    rw (← c.in_ok-archive.ensures.ok, e, ← c.event_of-x.ensures, ← c.event_of-y.ensures, ← c.verdict_between.ensures)

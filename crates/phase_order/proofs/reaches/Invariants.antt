@@ -13,7 +13,7 @@ pub record Reached (a : List ℕ) (x : Record) (from : ℕ) (r : List ℕ) : Typ
   pub are : Reaches a x rounds r
 
 abbrev pub invariant-loop-from : goal.invariant-loop-from
-invariant-loop-from l = (1 ≤ l.phases) × (l.phases ≤ 1024) × (l.from ≤ l.until) × (length l.table ≡ length l.initial.table) × ((x : Record) → Reached l.a x l.initial.from l.initial.reached → Reached l.a x l.from l.reached)
+invariant-loop-from l = (1 ≤ l.phases) × (l.phases ≤ 1024) × (l.from ≤ l.until) × (length l.table ≡ length l.initial.table) × ((x : Record) → Reached l.archive.bytes.now x l.initial.from l.initial.reached → Reached l.archive.bytes.now x l.from l.reached)
 
 abbrev pub decreases-loop-from : goal.decreases-loop-from
 decreases-loop-from l = l.until - l.from
