@@ -16,7 +16,8 @@ use Rattle.clock.specs.declared.Verdict.TheVariants.{Before, After, Same, Unorde
 use Rattle.clock.proofs.OrderLaws.{verdict_exact}
 use Rattle.record.specs.declared.Record.{Record}
 use Rattle.archive.specs.Archive.{archive_test, records}
-use Rattle.verdict.specs.declared.Compared.TheVariants.{Ordered}
+use Rattle.std.proofs.Common.{Result, Ok}
+use Rattle.refusals.specs.declared.Refusal.{Refusal}
 use Rattle.events.specs.Events.{event_at}
 use Rattle.concurrent.specs.Unordered.{is_unordered}
 use Rattle.concurrent.proofs.Laws.{has_below, unordered_means}
@@ -119,15 +120,15 @@ module _ {a : List ℕ} {E : List Accepted} {T : List (List Message)} (H : Holds
         rw (eq-eqb _ _ p) (λ h. w.0 (u.0 h), λ h. u.1 (w.1 h)))
         (λ n. rw (ne_eqb _ _ n) (two_phases x y xl yl n v))
 
-    order : order_of a x y ≡ Ordered (verdict_between a (event x) (event y))
+    order : order_of a x y ≡ Ok (verdict_between a (event x) (event y))
     unfolding order_of
     order = rw (tested, lt-ltb x _ (in_archive x xl), lt-ltb y _ (in_archive y yl), kept H R, H.event x xl, H.event y yl)
 
-    exact : (v : Verdict) → (order_of a x y ≡ Ordered v) ↔ Says E x y v
+    exact : (v : Verdict) → (order_of a x y ≡ Ok v) ↔ Says E x y v
     exact v =
         let u = verdict_says v in (
-          λ h. u.0 (let k : Ordered (verdict_between a (event x) (event y)) ≡ Ordered v = sym order ∙ h in cc),
-          λ s. order ∙ ap Ordered (u.1 s),
+          λ h. u.0 (let k : ◌≡◌ {A = Result Verdict Refusal} (Ok (verdict_between a (event x) (event y))) (Ok v) = sym order ∙ h in cc),
+          λ s. order ∙ ap (λ (w : Verdict). Ok w) (u.1 s),
         )
 
     verdicts : Verdicts a E x y

@@ -1,5 +1,5 @@
 -- What is claimed of the archive that the writers make of all accepted entries of a list of steps, from the initial network and over areas. Assumes nothing.
-use Rattle.std.specs.Prelude.{ℕ, ◌+◌, ◌≤◌, ◌<◌, ◌≡◌, ◌≢◌, ◌↔◌, true, length}
+use Rattle.std.specs.Prelude.{ℕ, ◌+◌, ◌≤◌, ◌<◌, ◌≡◌, ◌≢◌, ◌↔◌, true, length, Ok}
 use mathlib.Core.List.{List, Memᴰ}
 use Rattle.codec.specs.Num.{AreBytes}
 use Rattle.codec.specs.Splice.{splice}
@@ -11,7 +11,6 @@ use Rattle.header.specs.Header.{image_header, write_header}
 use Rattle.entries.specs.Entries.{write_entries}
 use Rattle.block_test.specs.BlockTest.{record_known}
 use Rattle.archive.specs.Archive.{archive_test, records, record_at}
-use Rattle.verdict.specs.declared.Compared.TheVariants.{Ordered}
 use Rattle.concurrent.specs.Unordered.{is_unordered, unordered_list}
 use Rattle.well_kept.specs.WellKept.{well_kept}
 use Rattle.phase_order.specs.ByNumber.{order_of}
@@ -51,10 +50,10 @@ Apart E x y = (HappenedBefore E x y → ⊥) × (HappenedBefore E y x → ⊥) �
 
 -- the verdict by number on two entries, of one phase or of two, is that of happened-before
 pub record Verdicts (a : List ℕ) (E : List Accepted) (x y : ℕ) : Type 0 where
-  pub before : (order_of a x y ≡ Ordered Before) ↔ HappenedBefore E x y
-  pub after : (order_of a x y ≡ Ordered After) ↔ HappenedBefore E y x
-  pub same : (order_of a x y ≡ Ordered Same) ↔ (x ≡ y)
-  pub unordered : (order_of a x y ≡ Ordered Unordered) ↔ Apart E x y
+  pub before : (order_of a x y ≡ Ok Before) ↔ HappenedBefore E x y
+  pub after : (order_of a x y ≡ Ok After) ↔ HappenedBefore E y x
+  pub same : (order_of a x y ≡ Ok Same) ↔ (x ≡ y)
+  pub unordered : (order_of a x y ≡ Ok Unordered) ↔ Apart E x y
 
 -- entry y is of entry x's phase and apart from it
 abbrev pub Beside : List Accepted → ℕ → ℕ → Type 0
