@@ -57,7 +57,8 @@ pub struct Place {
     ghost low: { at < 15 },
 }
 
-pub fn first_place() -> Place
+// The place of record 0.
+fn first_place() -> Place
     ensures { result.number ≡ 0 }
 {
     Place {
@@ -68,7 +69,7 @@ pub fn first_place() -> Place
 }
 
 // The place of the next record.
-pub fn next_place(p: Place) -> Place
+fn next_place(p: Place) -> Place
     requires { p.number < 18446744073709551615 }
     ensures { result.number ≡ p.number + 1 }
 {
