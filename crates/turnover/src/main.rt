@@ -2,183 +2,76 @@
 // here the bytes of each read are handed on, and the answers written.
 #![tactic(auto)]
 
-ghost use Rattle.std.specs.Prelude.{◌≡◌, false, List, ℕ, ◌≤◌, length};
-ghost use Rattle.codec.specs.Every.{blank as Blank};
-ghost use Rattle.turnover_commands.specs.Run.{standing, Ready};
+ghost use Rattle.std.specs.Prelude.{◌≡◌, List, ℕ, ◌≤◌, length, IfOk, OnOk};
 ghost use Rattle.turnover_session.specs.Turnover.{Passes, Prints};
 
-use std::io::{Read, Write};
+use std::io::{ErrorKind, Read, Result, Write};
 use std::rt::Clock;
-use turnover_session::Taken;
-use turnover_settings::Run;
-
-// Between reads: how much of a line is kept, whether more is read, whether a read or a write has failed, and the run.
-#[derive(Clone, Copy)]
-struct Reading {
-    have: usize,
-    open: bool,
-    failed: bool,
-    run: Run,
-}
-
-// Where the rest of what is printed ends in the buffer, and whether a read or a write has failed.
-#[derive(Clone, Copy)]
-struct Last {
-    end: usize,
-    failed: bool,
-}
-
-// What the bytes of a read leave. Behind a refused setup no more is read: nothing more is printed.
-fn settled(t: Taken, failed: bool) -> Reading
-    ensures { (result.have ≡ t.have) × (result.failed ≡ failed) × (result.run ≡ t.run) }
-{
-    let run = t.run;
-    Reading {
-        have: t.have,
-        open: !failed & !turnover_commands::ended(run),
-        failed,
-        run,
-    }
-}
+use turnover_session::Session;
 
 // The bytes of one read: as many as the buffer has room for the answers of, then those answers written, and so on.
 fn feed<W: Write>(
+    session: &mut Session,
     output: &mut W,
     clock: &impl Clock,
     bytes: &[u8],
-    line: &mut [u8],
-    block: &mut [u8],
-    area: &mut [u8],
     out: &mut [u8],
-    have: usize,
-    run: Run,
-) -> Reading
-    requires { (have ≤ 32) × (length line.old ≡ 32) × (length block.old ≡ 512) × (length out.old ≡ 65536) × Ready run.stage area.old }
-    ensures passes { result.failed ≡ false → Passes (standing run block.old area.old) line.old have bytes.now (standing result.run block.new area.new) line.new result.have }
-    ensures have_bound { (result.have ≤ 32) × Ready result.run.stage area.new }
+) -> Result<()>
+    requires { length out.old ≡ 65536 }
+    ensures { OnOk result (Passes session.old bytes.now session.new) }
 {
-    let mut t = Taken {
-        have,
-        next: 0,
-        end: 0,
-        run,
-    };
-    while t.next < bytes.len() {
-        let before = t.run;
-        t = turnover_parts::take_lines(line, t.have, bytes, t.next, block, area, out, 0, before);
-        let end = t.end;
-        if !turnover_io::put(output, clock, &out[..end]) {
-            return settled(t, true);
-        }
+    let mut rest = bytes;
+    while !rest.is_empty() {
+        let (left, end) = turnover_parts::take_lines(session, rest, out, 0);
+        turnover_io::put(output, clock, &out[..end])?;
+        rest = left;
     }
-    settled(t, false)
+    Ok(())
 }
 
-// One read, and what it brings.
+// One read, and what it brings. Answers whether to go on: behind a refused setup no more is read, since nothing more is printed.
 fn turn<R: Read, W: Write>(
+    session: &mut Session,
     input: &mut R,
     output: &mut W,
     clock: &impl Clock,
     bytes: &mut [u8],
-    line: &mut [u8],
-    block: &mut [u8],
-    area: &mut [u8],
     out: &mut [u8],
-    s: Reading,
-) -> Reading
-    requires { (s.have ≤ 32) × (length line.old ≡ 32) × (length block.old ≡ 512) × (length out.old ≡ 65536) × Ready s.run.stage area.old }
-    ensures by_index { result.failed ≡ false → (input : List ℕ) × Passes (standing s.run block.old area.old) line.old s.have input (standing result.run block.new area.new) line.new result.have }
-    ensures have_bound { (result.have ≤ 32) × Ready result.run.stage area.new }
+) -> Result<bool>
+    requires { length out.old ≡ 65536 }
+    ensures { OnOk result ((input : List ℕ) × Passes session.old input session.new) }
 {
-    let have = s.have;
-    let run = s.run;
-    match turnover_io::get(input, clock, bytes) {
-        Ok(0) => Reading {
-            have,
-            open: false,
-            failed: false,
-            run,
-        },
-        Ok(n) => feed(
-            output,
-            clock,
-            &bytes[..n],
-            line,
-            block,
-            area,
-            out,
-            have,
-            run,
-        ),
-        Err(_) => Reading {
-            have,
-            open: false,
-            failed: true,
-            run,
-        },
-    }
+    let n = turnover_io::get(input, clock, bytes)?;
+    feed(session, output, clock, &bytes[..n], out)?;
+    Ok((n > 0) & !session.state.ended())
 }
 
-// Nothing says that the input ends, so the reads are counted down as well.
+// Answers where the rest of what is printed ends in the buffer. Nothing says that the input ends, so the reads are counted as well.
 fn run<R: Read, W: Write>(
     input: &mut R,
     output: &mut W,
     clock: &impl Clock,
     bytes: &mut [u8],
-    line: &mut [u8],
-    block: &mut [u8],
-    area: &mut [u8],
     out: &mut [u8],
-) -> Last
-    requires { (length line.old ≡ 32) × (block.old ≡ Blank 512) × (area.old ≡ Blank 65536) × (length out.old ≡ 65536) }
-    ensures prints { result.failed ≡ false → Prints out.new result.end }
-    ensures end_bound { result.end ≤ 65536 }
+) -> Result<usize>
+    requires { length out.old ≡ 65536 }
+    ensures { IfOk result (λ end. Prints out.new end × (end ≤ 65536)) }
 {
-    let mut s = Reading {
-        have: 0,
-        open: true,
-        failed: false,
-        run: turnover_settings::opened(),
-    };
-    let mut turns = u64::MAX;
-    while turns > 0 {
-        turns -= 1;
-        s = turn(input, output, clock, bytes, line, block, area, out, s);
-        let failed = s.failed;
-        if failed {
-            return Last { end: 0, failed };
-        }
-        let open = s.open;
-        if !open {
-            let last = s.run;
-            let end = turnover_parts::finish(&line[..], s.have, block, area, out, 0, last);
-            return Last { end, failed };
+    let mut session = Session::new();
+    for _ in 0..u64::MAX {
+        if !turn(&mut session, input, output, clock, bytes, out)? {
+            return Ok(turnover_parts::finish(&mut session, out, 0));
         }
     }
-    Last {
-        end: 0,
-        failed: true,
-    }
+    Err(ErrorKind::WouldBlock.into())
 }
 
 fn main(rt: HostRuntime) {
     let mut input = rt.reader();
     let mut output = std::io::writer(&rt);
     let mut bytes = io::large_buffer();
-    let mut line = [0u8; 32];
-    let mut block = turnover_settings::block();
-    let mut area = turnover_settings::area();
     let mut out = io::large_buffer();
-    let last = run(
-        &mut input,
-        &mut output,
-        &rt,
-        &mut bytes,
-        &mut line,
-        &mut block,
-        &mut area,
-        &mut out,
-    );
-    let end = last.end;
-    turnover_io::put(&mut output, &rt, &out[..end]);
+    if let Ok(end) = run(&mut input, &mut output, &rt, &mut bytes, &mut out) {
+        let _ = turnover_io::put(&mut output, &rt, &out[..end]);
+    }
 }

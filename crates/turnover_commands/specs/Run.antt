@@ -1,19 +1,17 @@
 -- A run of turnover, command by command: what is printed, and where the run then stands (document 01, "turnover"). Assumes nothing.
-use Rattle.std.specs.Prelude.{ℕ, ◌+◌, ◌≤◌, ◌≡◌, List, [], Bool, true, false, cond, eqb}
+use Rattle.std.specs.Prelude.{ℕ, ◌+◌, ◌≤◌, ◌≡◌, Option, None, Some, List, [], Bool, true, false, cond, eqb}
 use Rattle.turnover_output.specs.TextAt.{TextAt}
 use Rattle.turnover_output.specs.Answer.{entry_text, receipt_text, mode_text, refused_text, setup_text, bad_text, longest}
 use Rattle.turnover_input.specs.declared.command.Command.{Command}
-use Rattle.turnover_input.specs.declared.command.Command.TheVariants.{Net, Allow, Link, Enter, Send, Recv, Start, Bad}
+use Rattle.turnover_input.specs.declared.command.Command.TheVariants.{Net, Allow, Link, Enter, Send, Recv, Start}
 use Rattle.reset.specs.Steps.{enter, send, recv, start, is_receipt, Answer, refused, entry, mode_after}
 use Rattle.station.specs.Image.{mode_byte}
-use Rattle.area.specs.Layout.{test}
 use Rattle.area_calls.specs.Calls.{AreaStep, step_on}
 use Rattle.record.specs.declared.Record.{Record}
 use Rattle.station.specs.View.{mode_view}
-use Rattle.step_parts.specs.declared.answer.Answer.{Answer as CodeAnswer}
-use Rattle.step_parts.specs.declared.answer.Answer.TheVariants.{Refused, Entered, InMode}
+use Rattle.step_parts.specs.Answers.{Told, Refused, Entered, InMode}
 use Rattle.turnover_settings.specs.declared.Run.{Run}
-use Rattle.turnover_commands.specs.declared.Reply.{Reply}
+use Rattle.turnover_commands.specs.declared.state.State.{State}
 use Rattle.turnover_settings.specs.declared.Stage.{Stage}
 use Rattle.turnover_settings.specs.declared.Stage.TheVariants.{Opening, Setting, Stepping, Ended}
 use Rattle.turnover_settings.specs.Settings.{named_run, staged_run, numbered_run, allowed_run, link_set, settings_block, set_up}
@@ -68,7 +66,6 @@ stepping s (Start i) = step_made s.run s.block i (step_on (start i) s.area)
 stepping s (Net n t) = bad_line s
 stepping s (Allow i a) = bad_line s
 stepping s (Link i j l) = bad_line s
-stepping s Bad = bad_line s
 
 -- ---- setup
 -- where a run stands after setup, in a stage
@@ -96,27 +93,28 @@ opening s (Enter i g) = bad_line s
 opening s (Send i j g) = bad_line s
 opening s (Recv i j) = bad_line s
 opening s (Start i) = bad_line s
-opening s Bad = bad_line s
 
 -- a command between `net` and setup
 abbrev pub setting : Standing → Command → Telling
 setting s (Allow i a) = silent (standing (allowed_run s.run i a) s.block s.area)
 setting s (Link i j l) = silent (standing s.run (link_set s.block i j l) s.area)
 setting s (Net n t) = bad_line s
-setting s Bad = bad_line s
 setting s (Enter i g) = first s (Enter i g)
 setting s (Send i j g) = first s (Send i j g)
 setting s (Recv i j) = first s (Recv i j)
 setting s (Start i) = first s (Start i)
 
--- a command in each stage; behind a refused setup no line is read
-abbrev pub obeyed_in : Stage → Standing → Command → Telling
-obeyed_in Opening s c = opening s c
-obeyed_in Setting s c = setting s c
-obeyed_in Stepping s c = stepping s c
+-- a command in each stage, and a line that says none; behind a refused setup no line is read
+abbrev pub obeyed_in : Stage → Standing → Option Command → Telling
+obeyed_in Opening s (Some c) = opening s c
+obeyed_in Opening s None = bad_line s
+obeyed_in Setting s (Some c) = setting s c
+obeyed_in Setting s None = bad_line s
+obeyed_in Stepping s (Some c) = stepping s c
+obeyed_in Stepping s None = bad_line s
 obeyed_in Ended s c = silent s
 
-abbrev pub obeyed : Standing → Command → Telling
+abbrev pub obeyed : Standing → Option Command → Telling
 obeyed s c = obeyed_in s.run.stage s c
 
 -- the end of input: a run that has met `net` and no step sets up now
@@ -137,23 +135,18 @@ is_ended Stepping = false
 is_ended Ended = true
 
 -- the line of a step, by its answer as the code has it
-abbrev pub code_text : ℕ → ℕ → ℕ → Record → CodeAnswer → List ℕ
+abbrev pub code_text : ℕ → ℕ → ℕ → Record → Told → List ℕ
 code_text number i n e (Refused k) = refused_text number k
 code_text number i n e (Entered b) = cond (eqb e.kind 3) (receipt_text number e.phase i e.counts n b) (entry_text number e.phase i e.counts n)
 code_text number i n e (InMode m p) = mode_text number p i (mode_byte (mode_view m))
 
 -- ---- what the calls promise
--- the call told t: it answered the run after, left these buffers, and printed the text from `at` on
-pub record Replies (t : Telling) (old : List ℕ) (at : ℕ) (r : Reply) (b a out : List ℕ) : Type 0 where
-  pub run : r.run ≡ t.after.run
-  pub block : b ≡ t.after.block
-  pub area : a ≡ t.after.area
-  pub text : TextAt old at t.text r.end out
-  pub short : r.end ≤ at + longest
+-- where the code's run stands
+abbrev pub standing_of : State → Standing
+standing_of s = standing s.run s.block s.area
 
--- after setup the area is the image of a well-formed state
-abbrev pub Ready : Stage → List ℕ → Type 0
-Ready Opening a = Unit {0}
-Ready Setting a = Unit {0}
-Ready Stepping a = test a ≡ true
-Ready Ended a = Unit {0}
+-- the call told t: the run then stands there, and the text was printed from `at` on, up to `end`
+pub record Replies (t : Telling) (old : List ℕ) (at end : ℕ) (after : Standing) (out : List ℕ) : Type 0 where
+  pub stands : after ≡ t.after
+  pub text : TextAt old at t.text end out
+  pub short : end ≤ at + longest

@@ -42,6 +42,7 @@ module _ {old : Line} {bytes : List ℕ} {new : Line} {i : ℕ} (f : Filling old
       let e = here bytes i h in
       let g = eq-eqb (get_or bytes i 0) 10 d in
       record {
+        inside = rw (p, length-drop) (omega arith);
         on = λ z. rw (p, length-drop) (omega arith);
         whole = rw (e, g) at f.whole;
         rest = p ∙ (rw (e, g) at f.rest);
@@ -54,6 +55,7 @@ module _ {old : Line} {bytes : List ℕ} {new : Line} {i : ℕ} (f : Filling old
   filled_part h =
       let e = drop_of_length-le bytes {i = i} h in
       record {
+        inside = omega arith;
         on = λ z. z;
         whole = rw e at f.whole;
         rest = rw e at f.rest;

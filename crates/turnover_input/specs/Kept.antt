@@ -1,5 +1,5 @@
 -- A line of any length in 32 bytes. Assumes nothing.
-use Rattle.std.specs.Prelude.{ℕ, min, ◌<◌, ◌≡◌, Option, None, Some, is_some, List, [], ◌++◌, length, take}
+use Rattle.std.specs.Prelude.{ℕ, min, ◌<◌, ◌≤◌, ◌≡◌, Option, None, Some, is_some, List, [], ◌++◌, length, take}
 use Rattle.std.specs.Borrow.{Bor}
 use Rattle.turnover_input.specs.declared.line.Line.{Line}
 use Rattle.turnover_input.specs.Lines.{ends, before, behind}
@@ -25,6 +25,7 @@ left (Some x) = x.now
 -- the line has gone on from `old` to `new` by the bytes up to the first line feed, or to the end where there is none; what stands behind a line
 -- feed is left
 pub record Fills (old : Line) (bytes : List ℕ) (r : Option (Bor (List ℕ))) (new : Line) : Type 0 where
+  pub inside : length (left r) ≤ length bytes
   pub on : 0 < length bytes → length (left r) < length bytes
   pub whole : is_some r ≡ ends bytes
   pub rest : left r ≡ behind bytes

@@ -1,7 +1,7 @@
 // Reads and writes of turnover, made again where a signal came or a file was not ready.
 #![tactic(auto)]
 
-ghost use Rattle.std.specs.Prelude.{IsTrue};
+ghost use Rattle.std.specs.Prelude.{OnOk};
 ghost use Rattle.std.specs.Io.{ReadsAtMost};
 ghost use Rattle.std.specs.Io.KnownBytes.{Appends, ReadConsumes};
 
@@ -15,62 +15,47 @@ fn wait(clock: &impl Clock, asked: Duration) {
     thread::sleep(clock, asked);
 }
 
-// Whether a call that failed is made again: a signal came, or the file was not ready, and then for a millisecond it is not asked.
-fn again(clock: &impl Clock, error: Error) -> bool {
+// A call that failed is made again where a signal came, or the file was not ready, and then for a millisecond it is not asked; any other error is
+// answered.
+fn again(clock: &impl Clock, error: Error) -> Result<()> {
     match error.kind() {
-        ErrorKind::Interrupted => true,
+        ErrorKind::Interrupted => Ok(()),
         ErrorKind::WouldBlock => {
             wait(clock, Duration::from_millis(1));
-            true
+            Ok(())
         }
-        _ => false,
+        _ => Err(error),
     }
 }
 
-// One read. Nothing says that a file is ever ready, so the calls are counted down from a number that no run uses up.
+// One read. Nothing says that a file is ever ready, so the calls are counted, up to a number that no run gets to.
 pub fn get<R: Read>(input: &mut R, clock: &impl Clock, bytes: &mut [u8]) -> Result<usize>
     ensures bound { ReadsAtMost result bytes.new }
     ensures bytes { ReadConsumes (R.remaining input.old) (R.remaining input.new) result bytes.new }
 {
-    let mut calls = u64::MAX;
-    while calls > 0 {
+    for _ in 0..u64::MAX {
         match input.read(bytes) {
             Ok(got) => return Ok(got),
-            Err(error) => {
-                if !again(clock, error) {
-                    return Err(error);
-                }
-            }
+            Err(error) => again(clock, error)?,
         }
-        calls -= 1;
     }
     Err(ErrorKind::WouldBlock.into())
 }
 
-// Whether there is a next write: this one took bytes, or is made again.
-fn moves(clock: &impl Clock, got: Result<usize>) -> bool {
-    match got {
-        Ok(count) => count > 0,
-        Err(error) => again(clock, error),
-    }
-}
-
-// Writes all, each call from where the last one stopped, and answers whether it could.
-pub fn put<W: Write>(output: &mut W, clock: &impl Clock, bytes: &[u8]) -> bool
-    ensures { IsTrue result → Appends (W.contents output.old) (W.contents output.new) bytes.now }
+// Writes all, each call from where the last one stopped.
+pub fn put<W: Write>(output: &mut W, clock: &impl Clock, bytes: &[u8]) -> Result<()>
+    ensures { OnOk result (Appends (W.contents output.old) (W.contents output.new) bytes.now) }
 {
-    let mut calls = u64::MAX;
     let mut done = 0;
-    while done < bytes.len() {
-        if calls == 0 {
-            return false;
+    for _ in 0..u64::MAX {
+        if done == bytes.len() {
+            return Ok(());
         }
-        calls -= 1;
-        let got = output.write(&bytes[done..]);
-        if !moves(clock, got) {
-            return false;
+        match output.write(&bytes[done..]) {
+            Ok(0) => return Err(ErrorKind::WriteZero.into()),
+            Ok(count) => done += count,
+            Err(error) => again(clock, error)?,
         }
-        done += got.unwrap_or(0);
     }
-    true
+    Err(ErrorKind::WouldBlock.into())
 }

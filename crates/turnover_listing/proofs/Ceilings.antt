@@ -13,6 +13,7 @@ use Rattle.header.specs.Header.{table_at}
 use Rattle.decimal.specs.Ascii.{ascii}
 use Rattle.decimal.specs.Decimal.{decimal_in, decimal}
 use Rattle.decimal.proofs.DecimalLaws.{decimal-small}
+use Rattle.std.proofs.Common.{Some}
 use Rattle.turnover_input.specs.declared.command.Command.TheVariants.{Net, Link}
 use Rattle.turnover_input.specs.Parse.{parse_of}
 use Rattle.turnover_input.specs.Lines.{ends}
@@ -103,19 +104,19 @@ module _ (l : ℕ) (some : 1 ≤ l) (few : l ≤ 32) where
     unfolding ends
     net-clean = decimal-clean t
 
-    says_net : parse_of (ascii "net 2 " ++ decimal t) ≡ Net 2 t
+    says_net : parse_of (ascii "net 2 " ++ decimal t) ≡ Some (Net 2 t)
     says_net = rw (decimal-small 2 (omega arith), append-nil) at (parse_text false (Net 2 t) (rw (lt-ltb t 65536 high)))
 
-    room : (line : List ℕ) → ends line ≡ false → parse_of line ≡ Link 0 1 l → turnover (one_link t line) ≡ cond (ltb t (l + l)) (ascii "no 3\n") []
+    room : (line : List ℕ) → ends line ≡ false → parse_of line ≡ Some (Link 0 1 l) → turnover (one_link t line) ≡ cond (ltb t (l + l)) (ascii "no 3\n") []
     unfolding turnover block
     room line clean says =
         rw (lines_joined ((ascii "net 2 " ++ decimal t) ∷ line ∷ []) (net-clean, (clean, tt)), says_net, says) (ends_so (ltb t (l + l)) refl)
 
 -- ---- the line without a limit, and those with one
-says_unwritten : parse_of (ascii "link 0 1") ≡ Link 0 1 16
+says_unwritten : parse_of (ascii "link 0 1") ≡ Some (Link 0 1 16)
 says_unwritten = rw (decimal-small 0 (omega arith), decimal-small 1 (omega arith)) at (unwritten-limit 0 1 (omega arith) (omega arith))
 
-says_written : (l : ℕ) → l ≤ 32 → parse_of (ascii "link 0 1 " ++ decimal l) ≡ Link 0 1 l
+says_written : (l : ℕ) → l ≤ 32 → parse_of (ascii "link 0 1 " ++ decimal l) ≡ Some (Link 0 1 l)
 says_written l h =
     rw (decimal-small 0 (omega arith), decimal-small 1 (omega arith), append-nil) at (written-limit 0 1 l (rw (lt-ltb l 256 (omega arith))))
 

@@ -9,7 +9,7 @@ use Rattle.reset.specs.Steps.{is_receipt, Answer, refused, entry, mode_after}
 use Rattle.reset.proofs.Cases.{by_test}
 use Rattle.turnover_input.specs.Text.{command_fits}
 use Rattle.turnover_input.specs.declared.command.Command.{Command}
-use Rattle.turnover_input.specs.declared.command.Command.TheVariants.{Net, Allow, Link, Enter, Send, Recv, Start, Bad}
+use Rattle.turnover_input.specs.declared.command.Command.TheVariants.{Net, Allow, Link, Enter, Send, Recv, Start}
 use Rattle.turnover_input.proofs.MadeLaws.{below2, below3}
 use Rattle.turnover_settings.specs.declared.Stage.{Stage}
 use Rattle.turnover_settings.specs.declared.Stage.TheVariants.{Opening, Setting, Stepping, Ended}
@@ -54,7 +54,6 @@ keeps_opening s e u (Enter i g) f = keeps_bad s Opening e u
 keeps_opening s e u (Send i j g) f = keeps_bad s Opening e u
 keeps_opening s e u (Recv i j) f = keeps_bad s Opening e u
 keeps_opening s e u (Start i) f = keeps_bad s Opening e u
-keeps_opening s e u Bad f = keeps_bad s Opening e u
 
 module _ (s : Standing) (e : s.run.stage ≡ Setting) (u : Unset s) where
   pub keeps_allow : (i a : ℕ) → command_fits (Allow i a) ≡ true → Keeps (setting s (Allow i a))

@@ -13,6 +13,7 @@ use Rattle.header.specs.Header.{table_at}
 use Rattle.decimal.specs.Ascii.{ascii}
 use Rattle.decimal.specs.Decimal.{decimal_in, decimal, digit}
 use Rattle.turnover_input.specs.Fields.{stuck, more, first, item, numbers_of}
+use Rattle.std.proofs.Common.{Option, Some}
 use Rattle.turnover_input.specs.declared.command.Command.{Command}
 use Rattle.turnover_input.specs.declared.command.Command.TheVariants.{Enter, Send, Recv, Start}
 use Rattle.turnover_input.specs.Parse.{starts_with, parse_of}
@@ -40,11 +41,11 @@ use Rattle.turnover_listing.specs.Listing.{listing_input, listing_output}
 use Rattle.turnover_listing.proofs.SetupLaws.{head_block, setting_run, made, set_up_lem}
 
 -- ---- steps over the image of a state print as the network answers
-abbrev command_of : Step → Command
-command_of (enter i g) = Enter i g
-command_of (send i j g) = Send i j g
-command_of (recv i j) = Recv i j
-command_of (start i) = Start i
+abbrev command_of : Step → Option Command
+command_of (enter i g) = Some (Enter i g)
+command_of (send i j g) = Some (Send i j g)
+command_of (recv i j) = Some (Recv i j)
+command_of (start i) = Some (Start i)
 
 -- lines that say these steps
 abbrev Say : List (List ℕ) → List Step → Type 0
@@ -93,7 +94,7 @@ module _ (n t : ℕ) (v b a : List ℕ) where
   first_line h x e f (recv i j) = rw (e, f)
   first_line h x e f (start i) = rw (e, f)
 
-same_line : (s s' : Standing) (l : List ℕ) (ls : List (List ℕ)) (d : Command) → parse_of l ≡ d → obeyed s d ≡ obeyed s' d → transcript s (l ∷ ls) ≡ transcript s' (l ∷ ls)
+same_line : (s s' : Standing) (l : List ℕ) (ls : List (List ℕ)) (d : Option Command) → parse_of l ≡ d → obeyed s d ≡ obeyed s' d → transcript s (l ∷ ls) ≡ transcript s' (l ∷ ls)
 same_line s s' l ls d e f = rw e (ap (λ (x : Telling). x.text ++ transcript x.after ls) f)
 
 -- ---- the settings

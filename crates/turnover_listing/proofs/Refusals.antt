@@ -19,7 +19,7 @@ use Rattle.turnover_input.specs.Text.{command_fits, Means}
 use Rattle.turnover_input.specs.Parse.{parse_of}
 use Rattle.turnover_input.specs.Lines.{lines_of}
 use Rattle.turnover_input.specs.declared.command.Command.{Command}
-use Rattle.turnover_input.specs.declared.command.Command.TheVariants.{Net, Allow, Link, Enter, Send, Recv, Start, Bad}
+use Rattle.turnover_input.specs.declared.command.Command.TheVariants.{Net, Allow, Link, Enter, Send, Recv, Start}
 use Rattle.turnover_input.proofs.LineLaws.{lines_joined}
 use Rattle.turnover_input.proofs.MadeLaws.{below2, below3}
 use Rattle.turnover_input.proofs.TextLaws.{parse_means}
@@ -27,6 +27,7 @@ use Rattle.turnover_settings.specs.declared.Stage.{Stage}
 use Rattle.turnover_settings.specs.declared.Stage.TheVariants.{Opening, Setting, Stepping, Ended}
 use Rattle.turnover_commands.specs.Run.{Standing, silent, last_number, step_made, stepping, set_up_in, first, setting, obeyed_in, obeyed, closed_in, closed}
 use Rattle.turnover_session.specs.Turnover.{transcript, beginning, turnover}
+use Rattle.std.proofs.Common.{Option, None, Some}
 use Rattle.turnover_listing.specs.Marked.{line_of}
 use Rattle.turnover_listing.specs.Refusals.{Refusals}
 use Rattle.turnover_listing.proofs.LineParts.{behind_digits, behind-number, Fine, Says, nothing, Lines, no_lines, one_more, fine_at}
@@ -57,7 +58,6 @@ module _ (s : Standing) (e : s.run.stage ≡ Stepping) (r : Reached s.area) wher
   keeps_stepping (Net n t) f = keeps_bad s Stepping e r
   keeps_stepping (Allow i a) f = keeps_bad s Stepping e r
   keeps_stepping (Link i j l) f = keeps_bad s Stepping e r
-  keeps_stepping Bad f = keeps_bad s Stepping e r
 
 -- the first sets up
 keeps_first : (s : Standing) → Unset s → (c : Command) → command_fits c ≡ true → Keeps (first s c)
@@ -67,31 +67,30 @@ keeps_setting : (s : Standing) → s.run.stage ≡ Setting → Unset s → (c : 
 keeps_setting s e u (Allow i a) f = keeps_allow s e u i a f
 keeps_setting s e u (Link i j l) f = keeps_link s e u i j l f
 keeps_setting s e u (Net n t) f = keeps_bad s Setting e u
-keeps_setting s e u Bad f = keeps_bad s Setting e u
 keeps_setting s e u (Enter i g) f = keeps_first s u (Enter i g) f
 keeps_setting s e u (Send i j g) f = keeps_first s u (Send i j g) f
 keeps_setting s e u (Recv i j) f = keeps_first s u (Recv i j) f
 keeps_setting s e u (Start i) f = keeps_first s u (Start i) f
 
 -- ---- in any stage: a command whose numbers fit, and any other line
-keeps_in : (g : Stage) (s : Standing) → s.run.stage ≡ g → HoldsIn g s → (c : Command) → command_fits c ≡ true → Keeps (obeyed_in g s c)
+keeps_in : (g : Stage) (s : Standing) → s.run.stage ≡ g → HoldsIn g s → (c : Command) → command_fits c ≡ true → Keeps (obeyed_in g s (Some c))
 keeps_in Opening s e h c f = keeps_opening s e h c f
 keeps_in Setting s e h c f = keeps_setting s e h c f
 keeps_in Stepping s e h c f = keeps_stepping s e h c f
 keeps_in Ended s e h c f = keeps_silent s (rw e tt)
 
-keeps_bad_in : (g : Stage) (s : Standing) → s.run.stage ≡ g → HoldsIn g s → Keeps (obeyed_in g s Bad)
+keeps_bad_in : (g : Stage) (s : Standing) → s.run.stage ≡ g → HoldsIn g s → Keeps (obeyed_in g s None)
 keeps_bad_in Opening s e h = keeps_bad s Opening e h
 keeps_bad_in Setting s e h = keeps_bad s Setting e h
 keeps_bad_in Stepping s e h = keeps_bad s Stepping e h
 keeps_bad_in Ended s e h = keeps_silent s (rw e tt)
 
 keeps_line : (s : Standing) → Holds s → (l : List ℕ) → Keeps (obeyed s (parse_of l))
-keeps_line s h l = go (parse_means l)
+keeps_line s h l = go (parse_of l) (parse_means l)
   where
-    go : Means l (parse_of l) → Keeps (obeyed s (parse_of l))
-    go (inl t) = keeps_in s.run.stage s refl h (parse_of l) t.0
-    go (inr n) = rw n.0 (keeps_bad_in s.run.stage s refl h)
+    go : (r : Option Command) → Means l r → Keeps (obeyed s r)
+    go (Some c) t = keeps_in s.run.stage s refl h c t.0
+    go None n = keeps_bad_in s.run.stage s refl h
 
 -- ---- the whole output
 says_closed : (g : Stage) (s : Standing) → HoldsIn g s → Says (closed_in g s).text

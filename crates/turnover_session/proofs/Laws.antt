@@ -3,24 +3,22 @@ use Prim.Native.Nat.{ℕ, ◌≤◌}
 use mathlib.Core.Path.{◌≡◌, refl, sym, ◌∙◌, ap, subst}
 use mathlib.Core.Bool.{Bool, true, false, true≢false}
 use mathlib.Core.List.{List, [], ◌∷◌, ◌++◌, append_assoc, append-nil}
+use Rattle.std.proofs.Common.{Option}
 use lib.Dec.{eqb}
 use native.Mathlib.Omega.{arith}
-use lib.ListN.{length, take, drop, drop_of_length-le}
+use lib.ListN.{length, take}
 use lib.Seq.{take_at}
 use Rattle.turnover_output.specs.TextAt.{TextAt}
-use Rattle.turnover_input.specs.Kept.{HoldsLine}
-use Rattle.turnover_input.proofs.KeptLaws.{kept_none}
+use Rattle.turnover_input.specs.Kept.{Holds}
 use Rattle.turnover_output.proofs.TextAtLaws.{text_none, text_more}
 use Rattle.turnover_input.specs.Parse.{parse_of}
 use Rattle.turnover_input.specs.declared.command.Command.{Command}
 use Rattle.turnover_input.specs.Lines.{Split, unended, ended, split_from, and_then, all_of, ends, before, behind}
 use Rattle.turnover_input.proofs.LineLaws.{split_append, split_first}
-use Rattle.turnover_settings.specs.declared.Run.{Run}
 use Rattle.turnover_settings.specs.declared.Stage.TheVariants.{Ended}
-use Rattle.turnover_commands.specs.declared.Reply.{Reply}
-use Rattle.turnover_commands.specs.Run.{Standing, Telling, standing, obeyed, obeyed_in, closed, closed_in, Replies}
-use Rattle.turnover_session.specs.declared.Taken.{Taken}
-use Rattle.turnover_session.specs.Turnover.{transcript, beginning, turnover, turnover_from, Goes, Passes, Prints, Takes}
+use Rattle.turnover_commands.specs.Run.{Standing, standing_of, obeyed, obeyed_in, closed, closed_in}
+use Rattle.turnover_session.specs.declared.Session.{Session}
+use Rattle.turnover_session.specs.Turnover.{transcript, beginning, turnover, turnover_from, Goes, Passes, Begins, Prints, Takes}
 
 -- the whole input, before any of it has come
 pub whole-input : (input : List ℕ) → turnover_from beginning [] input ≡ turnover input
@@ -59,21 +57,17 @@ unfolding turnover_from
 part_line s t d rest more h e = rw (e, behind_none d h) (ap (λ (x : Split). transcript s (all_of x)) (split_part t d more h))
 
 -- ---- where a run stands
-pub stands : (t : Telling) (old : List ℕ) (at : ℕ) (r : Reply) (b a out : List ℕ) → Replies t old at r b a out → standing r.run b a ≡ t.after
-stands t old at r b a out h = rw (h.run, h.block, h.area)
-
-pub line_taken : (s y : Standing) (c : Command) → y ≡ (obeyed s c).after → (t d rest more : List ℕ) → ends d ≡ true → rest ≡ behind d → c ≡ parse_of (t ++ before d)
+pub line_taken : (s y : Standing) (c : Option Command) → y ≡ (obeyed s c).after → (t d rest more : List ℕ) → ends d ≡ true → rest ≡ behind d → c ≡ parse_of (t ++ before d)
     → turnover_from s t (d ++ more) ≡ (obeyed s c).text ++ turnover_from y [] (rest ++ more)
 line_taken s y c e t d rest more h f q = rw (e, f, q) (whole_line s t d more h)
 
 -- ---- parts of an input, one after the other
 -- nothing was taken
-pub goes_none : (s : Standing) (line : List ℕ) (have : ℕ) (input : List ℕ) → Goes s line have input [] s line have input
-goes_none s line have input = record { whole = λ t k. (t, k, λ more. refl) }
+pub goes_none : (s : Session) (input : List ℕ) → Goes s input [] s input
+goes_none s input = record { whole = λ t k. (t, k, λ more. refl) }
 
 -- more of an input was taken
-pub goes_more : {s y z : Standing} {l m n a b c p q : List ℕ} {have after last : ℕ} → Goes s l have a p y m after b → Goes y m after b q z n last c
-    → Goes s l have a (p ++ q) z n last c
+pub goes_more : {s y z : Session} {a b c p q : List ℕ} → Goes s a p y b → Goes y b q z c → Goes s a (p ++ q) z c
 goes_more {p = p} {q} f g =
     record {
       whole = λ t k.
@@ -83,32 +77,29 @@ goes_more {p = p} {q} f g =
     }
 
 -- more of an input has come
-pub goes_on : {s y : Standing} {l m a p : List ℕ} {have after : ℕ} → Goes s l have a p y m after [] → (b : List ℕ) → Goes s l have (a ++ b) p y m after b
+pub goes_on : {s y : Session} {a p : List ℕ} → Goes s a p y [] → (b : List ℕ) → Goes s (a ++ b) p y b
 goes_on f b = record { whole = λ t k. let x = f.whole t k in (x.0, x.1, λ more. rw append_assoc (x.2 (b ++ more))) }
 
 -- two inputs, each taken whole, one after the other
-pub passes_more : {s y z : Standing} {l m n a b : List ℕ} {have after last : ℕ} → Passes s l have a y m after → Passes y m after b z n last → Passes s l have (a ++ b) z n last
+pub passes_more : {s y z : Session} {a b : List ℕ} → Passes s a y → Passes y b z → Passes s (a ++ b) z
 passes_more {b = b} f g = (f.0 ++ g.0, goes_more (goes_on f.1 b) g.1)
 
 -- all bytes were taken
-pub goes-whole : {s y : Standing} {l m input p : List ℕ} {have after : ℕ} (bytes : List ℕ) (n : ℕ) → Goes s l have input p y m after (drop n bytes) → length bytes ≤ n
-    → Passes s l have input y m after
-goes-whole {s} {y} {l} {m} {input} {p} {have} {after} bytes n g h = (p, subst (λ (rest : List ℕ). Goes s l have input p y m after rest) (drop_of_length-le bytes h) g)
+pub goes-whole : {s y : Session} {input p : List ℕ} (rest : List ℕ) → Goes s input p y rest → length rest ≡ 0 → Passes s input y
+goes-whole {p = p} [] g h = (p, g)
+goes-whole (x ∷ rest) g h = absurd (omega arith)
 
 -- no bytes were taken, and more
-pub takes_none : (run : Run) (line : List ℕ) (have : ℕ) (bytes : List ℕ) (at : ℕ) (block area out : List ℕ) (end : ℕ) → have ≤ 32 → at ≤ length bytes → end ≤ length out
-    → Takes (standing run block area) line have bytes at out end (record { have = have; next = at; end = end; run = run }) line block area out
-takes_none run line have bytes at block area out end h g o =
-    record { text = []; printed = text_none o; fits = h; inside = g; goes = goes_none _ line have _ }
+pub takes_none : (s : Session) (bytes out : List ℕ) (at : ℕ) → at ≤ length out → Takes s bytes out at bytes at s out
+takes_none s bytes out at h = record { text = []; printed = text_none h; inside = omega arith; goes = goes_none s bytes }
 
-pub takes_more : {s : Standing} {line new last bytes old mid out b a b' a' : List ℕ} {have at end : ℕ} {p q : Taken} → Takes s line have bytes at old end p new b a mid
-    → Takes (standing p.run b a) new p.have bytes p.next mid p.end q last b' a' out → Takes s line have bytes at old end q last b' a' out
+pub takes_more : {s y z : Session} {bytes rest left old mid out : List ℕ} {at end last : ℕ} → Takes s bytes old at rest end y mid → Takes y rest mid end left last z out
+    → Takes s bytes old at left last z out
 takes_more f g =
     record {
       text = f.text ++ g.text;
       printed = text_more f.printed g.printed;
-      fits = g.fits;
-      inside = g.inside;
+      inside = let a = f.inside in let b = g.inside in omega arith;
       goes = goes_more f.goes g.goes;
     }
 
@@ -117,7 +108,7 @@ pub end_none : (s : Standing) → turnover_from s [] [] ≡ (closed s).text
 unfolding turnover_from split_from
 end_none s = refl
 
-pub end_line : (s y : Standing) (c : Command) → y ≡ (obeyed s c).after → (t : List ℕ) → (t ≡ [] → ⊥) → c ≡ parse_of t → turnover_from s t [] ≡ (obeyed s c).text ++ (closed y).text
+pub end_line : (s y : Standing) (c : Option Command) → y ≡ (obeyed s c).after → (t : List ℕ) → (t ≡ [] → ⊥) → c ≡ parse_of t → turnover_from s t [] ≡ (obeyed s c).text ++ (closed y).text
 unfolding turnover_from split_from
 end_line s y c e [] n q = absurd (n refl)
 end_line s y c e (x ∷ t) n q = rw (e, q)
@@ -126,13 +117,14 @@ text_taken : (old text out : List ℕ) (end : ℕ) → TextAt old 0 text end out
 text_taken old text out end w = let n : length text ≡ end = omega (arith, w.next) in rw w.is (take_at text _ end n)
 
 -- a run that began with nothing set, took the input whole and printed what was left
-pub all_printed : {y : Standing} {l m input old out : List ℕ} {have end : ℕ} → Passes beginning l 0 input y m have → ((t : List ℕ) → HoldsLine m have t → TextAt old 0 (turnover_from y t []) end out) → Prints out end
-all_printed {y} {l} {m} {input} {old} {out} {have} {end} p w =
-    let x = p.1.whole [] (kept_none l) in
+pub all_printed : {s y : Session} {input old out : List ℕ} {end : ℕ} → Begins s → Passes s input y
+    → ((t : List ℕ) → Holds y.line t → TextAt old 0 (turnover_from (standing_of y.state) t []) end out) → Prints out end
+all_printed {s} {y} {input} {old} {out} {end} b p w =
+    let x = p.1.whole [] b.line in
     record {
       input = input;
       before = p.0;
-      all = sym (whole-input input) ∙ rw append-nil at (x.2 []) ∙ ap (λ (z : List ℕ). p.0 ++ z) (sym (text_taken old _ out end (w x.0 x.1)));
+      all = sym (whole-input input) ∙ (rw (append-nil, b.stands) at (x.2 [])) ∙ ap (λ (z : List ℕ). p.0 ++ z) (sym (text_taken old _ out end (w x.0 x.1)));
     }
 
 -- ---- behind a refused setup nothing is printed

@@ -1,14 +1,14 @@
 -- What turnover prints for an input, whole (document 01, "turnover"). Assumes nothing.
-use Rattle.std.specs.Prelude.{ℕ, ◌+◌, ◌≤◌, ◌<◌, ◌≡◌, List, [], ◌∷◌, ◌++◌, length, take, drop}
+use Rattle.std.specs.Prelude.{ℕ, ◌+◌, ◌≤◌, ◌<◌, ◌≡◌, List, [], ◌∷◌, ◌++◌, length, take}
 use Rattle.codec.specs.Every.{blank}
 use Rattle.turnover_output.specs.TextAt.{TextAt}
 use Rattle.turnover_output.specs.Answer.{longest}
 use Rattle.turnover_input.specs.Parse.{parse_of}
 use Rattle.turnover_input.specs.Lines.{split_from, all_of, lines_of}
-use Rattle.turnover_input.specs.Kept.{line_size, HoldsLine}
+use Rattle.turnover_input.specs.Kept.{Holds}
 use Rattle.turnover_settings.specs.Settings.{opened_run}
-use Rattle.turnover_commands.specs.Run.{Standing, standing, obeyed, closed}
-use Rattle.turnover_session.specs.declared.Taken.{Taken}
+use Rattle.turnover_commands.specs.Run.{Standing, standing, standing_of, obeyed, closed}
+use Rattle.turnover_session.specs.declared.Session.{Session}
 
 -- what a run prints for the lines to come, and at their end
 abbrev pub transcript : Standing → List (List ℕ) → List ℕ
@@ -30,12 +30,18 @@ turnover_from s line input = transcript s (all_of (split_from line input))
 
 -- an input was taken up to `rest`: whatever line it goes on with and whatever follows it, `text` and what is then to be printed is what was to
 -- be printed before
-pub record Goes (s : Standing) (line : List ℕ) (have : ℕ) (input text : List ℕ) (y : Standing) (new : List ℕ) (after : ℕ) (rest : List ℕ) : Type 0 where
-  pub whole : (t : List ℕ) → HoldsLine line have t → (u : List ℕ) × HoldsLine new after u × ((more : List ℕ) → turnover_from s t (input ++ more) ≡ text ++ turnover_from y u (rest ++ more))
+pub record Goes (s : Session) (input text : List ℕ) (y : Session) (rest : List ℕ) : Type 0 where
+  pub whole : (t : List ℕ) → Holds s.line t
+      → (u : List ℕ) × Holds y.line u × ((more : List ℕ) → turnover_from (standing_of s.state) t (input ++ more) ≡ text ++ turnover_from (standing_of y.state) u (rest ++ more))
 
 -- an input was taken whole, with whatever text
-abbrev pub Passes : Standing → List ℕ → ℕ → List ℕ → Standing → List ℕ → ℕ → Type 0
-Passes s line have input y new after = (text : List ℕ) × Goes s line have input text y new after []
+abbrev pub Passes : Session → List ℕ → Session → Type 0
+Passes s input y = (text : List ℕ) × Goes s input text y []
+
+-- nothing has come, and nothing is set
+pub record Begins (s : Session) : Type 0 where
+  pub line : Holds s.line []
+  pub stands : standing_of s.state ≡ beginning
 
 -- the end of a run: what was printed before and what now stands in the buffer is all that turnover prints of an input
 pub record Prints (out : List ℕ) (end : ℕ) : Type 0 where
@@ -43,21 +49,20 @@ pub record Prints (out : List ℕ) (end : ℕ) : Type 0 where
   pub before : List ℕ
   pub all : turnover input ≡ before ++ take end out
 
--- the bytes from `at` to the next place were taken, and the text of their answers stands in the buffer
-pub record Takes (s : Standing) (line : List ℕ) (have : ℕ) (bytes : List ℕ) (at : ℕ) (old : List ℕ) (end : ℕ) (r : Taken) (new : List ℕ) (block area out : List ℕ) : Type 0 where
+-- bytes were taken up to `rest`, and the text of their answers stands in the buffer
+pub record Takes (s : Session) (bytes old : List ℕ) (at : ℕ) (rest : List ℕ) (end : ℕ) (y : Session) (out : List ℕ) : Type 0 where
   pub text : List ℕ
-  pub printed : TextAt old end text r.end out
-  pub fits : r.have ≤ line_size
-  pub inside : r.next ≤ length bytes
-  pub goes : Goes s line have (drop at bytes) text (standing r.run block area) new r.have (drop r.next bytes)
+  pub printed : TextAt old at text end out
+  pub inside : length rest ≤ length bytes
+  pub goes : Goes s bytes text y rest
 
 -- one line, or a part of one: at most one answer
-pub record OneLine (bytes : List ℕ) (at end : ℕ) (r : Taken) : Type 0 where
-  pub short : r.end ≤ end + longest
-  pub on : at < length bytes → at < r.next
+pub record OneLine (bytes rest : List ℕ) (at end : ℕ) : Type 0 where
+  pub short : end ≤ at + longest
+  pub on : 0 < length bytes → length rest < length bytes
 
 -- as many lines as the buffer has room for: bytes are left only where an answer more may not fit
-pub record AllThatFits (bytes : List ℕ) (at : ℕ) (out : List ℕ) (end : ℕ) (r : Taken) : Type 0 where
-  pub room : r.end ≤ length out
-  pub on : at < length bytes → end + longest ≤ length out → at < r.next
-  pub left : r.next < length bytes → length out < r.end + longest
+pub record AllThatFits (bytes : List ℕ) (at : ℕ) (out rest : List ℕ) (end : ℕ) : Type 0 where
+  pub room : end ≤ length out
+  pub on : 0 < length bytes → at + longest ≤ length out → length rest < length bytes
+  pub left : 0 < length rest → length out < end + longest

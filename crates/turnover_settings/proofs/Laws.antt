@@ -13,6 +13,9 @@ use lib.Seq.{set_split, get_or-set_same, get_or-set_other}
 use borrow.Author.Tests.{eq-eqb, ne_eqb, lt-ltb}
 use Rattle.codec.proofs.SpliceLaws.{splice-length}
 use Rattle.header.proofs.Laws.{table_at_lem}
+use Rattle.refusals.specs.Numbers.{number_of}
+use Rattle.refusals.specs.declared.Refusal.{Refusal}
+use Rattle.refusals.specs.declared.Refusal.TheVariants.{Malformed, IllFormedState, NetworkRule, NoSuchStation, ModeForbids, UsedUp, EmptyLink, NoMorePhases, DifferentPhases, BufferLength, NoSuchRecord, IllKept, SheetTooLong}
 use Rattle.turnover_settings.specs.Settings.{allowance_set, limit_set, link_set, limit_in}
 
 -- allow i x: the allowance of i is x, the others are as they were
@@ -58,3 +61,19 @@ link_sets block n i j l h g a b p q =
     go : (s t : Bool) → cond s l (cond t l (limit_in block a b)) ≡ cond (s || t) l (limit_in block a b)
     go true t = refl
     go false t = refl
+
+-- no refusal has number 0
+pub number-not_zero : (r : Refusal) → number_of r ≡ 0 → ⊥
+number-not_zero Malformed e = absurd (omega arith)
+number-not_zero IllFormedState e = absurd (omega arith)
+number-not_zero NetworkRule e = absurd (omega arith)
+number-not_zero NoSuchStation e = absurd (omega arith)
+number-not_zero ModeForbids e = absurd (omega arith)
+number-not_zero UsedUp e = absurd (omega arith)
+number-not_zero EmptyLink e = absurd (omega arith)
+number-not_zero NoMorePhases e = absurd (omega arith)
+number-not_zero DifferentPhases e = absurd (omega arith)
+number-not_zero BufferLength e = absurd (omega arith)
+number-not_zero NoSuchRecord e = absurd (omega arith)
+number-not_zero IllKept e = absurd (omega arith)
+number-not_zero SheetTooLong e = absurd (omega arith)

@@ -1,12 +1,23 @@
-use mathlib.Core.Path.{refl}
+use mathlib.Core.Path.{refl, sym, ◌∙◌, ap}
 use borrow.Author.Tests.{eq-eqb, ne_eqb}
+use Rattle.std.proofs.lemmas.Result.{err_from_is_err_and}
+use Rattle.refusals.specs.Numbers.{told, number_of}
 use Rattle.turnover_settings.specs.Settings.{settings_block, set_up}
+use Rattle.turnover_settings.proofs.Laws.{number-not_zero}
 use Rattle.turnover_settings.proofs.set_up.Goals as goal
 
-pub returns-then-refusal-ne0 : goal.returns-then-refusal-ne0
+pub returns-in_err-write : goal.returns-in_err-write
 unfolding set_up settings_block
-returns-then-refusal-ne0 c = rw (← c.load_limits-limits.ensures, ← c.settings.ensures, ← c.write-refusal.ensures.0, ← c.write-refusal.ensures.1, ne_eqb _ 0 c.if-refusal-ne0.true) (record { value = refl; block_after = refl; area_after = refl })
+returns-in_err-write c =
+    let p = err_from_is_err_and c.from_residual.result c.from_residual.ensures.1 in
+    let w = c.write.ensures in
+    let e = c.in_err-write.ensures in
+    rw (← c.load_limits-limits.ensures, ← c.settings.ensures, ← w.1, ← e.0, ne_eqb _ 0 (number-not_zero c.in_err-write.field-0.0))
+    (record { value = rw (p.1, p.2); block_after = refl; area_after = refl })
 
 pub returns : goal.returns
 unfolding set_up settings_block
-returns c = rw (← c.load_limits-limits.ensures, ← c.settings.ensures, ← c.write-refusal.ensures.0, ← c.write-refusal.ensures.1, eq-eqb _ 0 c.if-refusal-ne0.false) (record { value = c.setup.ensures.0; block_after = refl; area_after = c.setup.ensures.1 })
+returns c =
+    let w = c.write.ensures in
+    let e = c.in_ok-write.ensures in
+    rw (← c.load_limits-limits.ensures, ← c.settings.ensures, ← w.1, ← e.0) (record { value = c.setup.ensures.0; block_after = refl; area_after = c.setup.ensures.1 })
