@@ -17,11 +17,11 @@ use Rattle.codec.proofs.Stride.{upto-length, upto_at, upto_none}
 use Rattle.clock.specs.declared.Verdict.{Verdict}
 use Rattle.record.specs.Record.{parse_record}
 use Rattle.archive.specs.Archive.{archive_test, blocks, records}
-use Rattle.archive.specs.declared.Counted.TheVariants.{Count, Refused}
+use Rattle.std.specs.Prelude.{Ok, Err}
+use Rattle.clock.specs.Numbers.{order_number}
+use Rattle.refusals.specs.declared.Refusal.TheVariants.{Malformed, BufferLength, NoSuchRecord, IllKept, SheetTooLong}
 use Rattle.events.specs.Events.{event_at, station_at, own_at}
 use Rattle.events.proofs.Laws.{station-small, own_some}
-use Rattle.verdict.specs.Numbers.{order_number}
-use Rattle.verdict.specs.declared.Compared.TheVariants.{Ordered}
 use Rattle.well_kept.specs.WellKept.{well_kept}
 use Rattle.phase_order.specs.PhaseOrder.{verdict_between}
 use Rattle.phase_order.specs.ByNumber.{order_of}
@@ -86,12 +86,12 @@ pub record Accepted (a l before : List ℕ) (n : ℕ) : Type 0 where
   pub room : pairs l ≤ length before
   pub count : n ≡ (gathered a l).count
 
-pub accepted : (a l before : List ℕ) (n : ℕ) → sheet_answer a l (length before) ≡ Count n → Accepted a l before n
+pub accepted : (a l before : List ℕ) (n : ℕ) → sheet_answer a l (length before) ≡ Ok n → Accepted a l before n
 unfolding sheet_answer pairs_answer
 accepted a l before n e = go (ltb 128 (length l)) (archive_test a) (all_named a l) (well_kept a) (ltb (length before) (pairs l)) refl refl refl refl refl e
   where
     go : (v w x y z : Bool) → ltb 128 (length l) ≡ v → archive_test a ≡ w → all_named a l ≡ x → well_kept a ≡ y → ltb (length before) (pairs l) ≡ z
-        → cond v (Refused 14) (cond w (cond x (cond y (cond z (Refused 11) (Count (gathered a l).count)) (Refused 13)) (Refused 12)) (Refused 1)) ≡ Count n → Accepted a l before n
+        → cond v (Err SheetTooLong) (cond w (cond x (cond y (cond z (Err BufferLength) (Ok (gathered a l).count)) (Err IllKept)) (Err NoSuchRecord)) (Err Malformed)) ≡ Ok n → Accepted a l before n
     go true w x y z f g h i j k = cc
     go false false x y z f g h i j k = cc
     go false true false y z f g h i j k = cc
@@ -106,7 +106,7 @@ module _ (a l before : List ℕ) (n : ℕ) (w : Accepted a l before n) where
   fetched_blocks = (all_fetched a l w.tested w.named w.few).distinct
 
   verdict_told : (i : ℕ) → i < pairs l
-      → (v : Verdict) × (order_of a (get_or l (i * 2) 0) (get_or l (i * 2 + 1) 0) ≡ Ordered v) × (get_or (sheet_after a l before (Count n)) i 0 ≡ order_number v)
+      → (v : Verdict) × (order_of a (get_or l (i * 2) 0) (get_or l (i * 2 + 1) 0) ≡ Ok v) × (get_or (sheet_after a l before (Ok n)) i 0 ≡ order_number v)
   unfolding pair_verdict
   verdict_told i h =
       let d = (gathered a l).copies in
@@ -117,7 +117,7 @@ module _ (a l before : List ℕ) (n : ℕ) (w : Accepted a l before n) where
       = rw (copy_event a l w.tested w.named w.few (i * 2) x, copy_event a l w.tested w.named w.few (i * 2 + 1) y)
       in (
         pair_verdict a d i,
-        order_is a (get_or l (i * 2) 0) (get_or l (i * 2 + 1) 0) w.tested (s (i * 2) x) (s (i * 2 + 1) y) w.kept ∙ ap Ordered (sym o),
+        order_is a (get_or l (i * 2) 0) (get_or l (i * 2 + 1) 0) w.tested (s (i * 2) x) (s (i * 2 + 1) y) w.kept ∙ ap Ok (sym o),
         get_or-append (pair_verdicts a d (pairs l)) (drop (pairs l) before) 0 i (omega (arith, verdicts-length a d (pairs l))) ∙ verdicts_at a d (pairs l) i h,
       )
 

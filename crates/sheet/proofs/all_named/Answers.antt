@@ -14,24 +14,24 @@ pub returns-then-numbers-ne0 : goal.returns-then-numbers-ne0
 unfolding all_named
 returns-then-numbers-ne0 c = rw (ne_eqb (length c.args.numbers.now % 2) 0 c.if-numbers-ne0.true)
 
-pub loop-i-init : goal.loop-i-init
-loop-i-init c = (omega arith, every_none _)
+pub loop-number-init : goal.loop-number-init
+loop-number-init c = every_none _
 
-pub returns-then-n-numbers : goal.returns-then-n-numbers
+pub returns-then-n-number : goal.returns-then-n-number
 unfolding all_named
-returns-then-n-numbers c =
+returns-then-n-number c =
     let l = c.args.numbers.now in
-    let r = records c.args.a.now in
-    rw (every_fails (length l) (λ (i : ℕ). ltb (get_or l i 0) r) c.loop-i.i c.loop-i-test.true (le-ltb (get_or l c.loop-i.i 0) r (omega (arith, c.records-n.ensures)))) (sym (and-false _))
+    let r = records c.args.archive.bytes.now in
+    rw (every_fails (length l) (λ (i : ℕ). ltb (get_or l i 0) r) c.loop-number.number-index (omega arith) (le-ltb (get_or l c.loop-number.number-index 0) r (omega (arith, c.records-n.ensures)))) (sym (and-false _))
 
-pub loop-i-preserved : goal.loop-i-preserved
-loop-i-preserved c =
+pub loop-number-preserved : goal.loop-number-preserved
+loop-number-preserved c =
     let l = c.args.numbers.now in
-    let r = records c.args.a.now in
-    (omega arith, every_more c.loop-i.i (λ (i : ℕ). ltb (get_or l i 0) r) c.loop-i.invariant.1 (lt-ltb (get_or l c.loop-i.i 0) r (omega (arith, c.records-n.ensures))))
+    let r = records c.args.archive.bytes.now in
+    every_more c.loop-number.number-index (λ (i : ℕ). ltb (get_or l i 0) r) c.loop-number.invariant (lt-ltb (get_or l c.loop-number.number-index 0) r (omega (arith, c.records-n.ensures)))
 
 pub returns : goal.returns
 unfolding all_named
 returns c =
-    let e : c.loop-i.i ≡ length c.args.numbers.now = omega arith in
-    rw (eq-eqb (length c.args.numbers.now % 2) 0 (omega arith)) (sym (rw e at c.loop-i.invariant.1))
+    let e : c.loop-number.number-index ≡ length c.args.numbers.now = omega arith in
+    rw (eq-eqb (length c.args.numbers.now % 2) 0 (omega arith)) (sym (rw e at c.loop-number.invariant))
