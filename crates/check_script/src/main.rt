@@ -1,159 +1,88 @@
 // Prints what each line of the input says, and then lines of turnover's output with values at their ends.
 #![tactic(auto)]
 
-ghost use Rattle.std.specs.Prelude.{◌≡◌, ◌<◌, ◌≤◌, length};
-ghost use Rattle.turnover_input.specs.Kept.{line_size};
+ghost use Rattle.std.specs.Prelude.{◌+◌, ◌≤◌, length};
 
+use refusals::Refusal;
+use station::Mode;
 use std::io::Read;
 use turnover_input::command::Command;
-use turnover_input::lines::Filled;
+use turnover_input::line::Line;
+use turnover_output::{answer, text};
 
 // The standard output.
 const STDOUT: i32 = 1;
-
-// How much of a line is kept between reads, and whether more may come.
-#[derive(Clone, Copy)]
-struct Reading {
-    have: usize,
-    open: bool,
-}
 
 fn value(x: u64) {
     io::write_all(STDOUT, b" ");
     io::print_decimal(STDOUT, x);
 }
 
-// Setup's commands, and whether it was one.
-fn setting(c: Command) -> bool {
-    match c {
-        Command::Net { n, t } => {
-            io::write_all(STDOUT, b"Net");
-            value(n as u64);
-            value(t as u64);
-            true
-        }
-        Command::Allow { station, allowance } => {
-            io::write_all(STDOUT, b"Allow");
-            value(station as u64);
-            value(allowance as u64);
-            true
-        }
-        Command::Link { from, to, limit } => {
-            io::write_all(STDOUT, b"Link");
-            value(from as u64);
-            value(to as u64);
-            value(limit as u64);
-            true
-        }
-        _ => false,
-    }
-}
-
-fn step(c: Command) {
-    match c {
-        Command::Enter { station, register } => {
-            io::write_all(STDOUT, b"Enter");
-            value(station as u64);
-            value(register as u64);
-        }
-        Command::Send {
-            station,
-            peer,
-            register,
-        } => {
-            io::write_all(STDOUT, b"Send");
-            value(station as u64);
-            value(peer as u64);
-            value(register as u64);
-        }
-        Command::Recv { station, peer } => {
-            io::write_all(STDOUT, b"Recv");
-            value(station as u64);
-            value(peer as u64);
-        }
-        Command::Start { station } => {
-            io::write_all(STDOUT, b"Start");
-            value(station as u64);
-        }
-        _ => {
-            io::write_all(STDOUT, b"Bad");
-        }
-    }
-}
-
-fn show(c: Command) {
-    if !setting(c) {
-        step(c);
+// A word, and its numbers.
+fn told(word: &[u8], numbers: &[u64]) {
+    io::write_all(STDOUT, word);
+    for x in numbers {
+        value(*x);
     }
     io::write_all(STDOUT, b"\n");
 }
 
-// What is kept after a fill: nothing, where the line is whole.
-fn settle(line: &[u8], f: Filled) -> usize
-    requires { (f.have ≤ line_size) × (length line.now ≡ line_size) }
-    ensures { result ≤ line_size }
-{
-    let have = f.have;
-    let whole = f.whole;
-    if whole {
-        show(turnover_input::lines::said(line, have));
-        return 0;
+fn show(command: Option<Command>) {
+    match command {
+        Some(Command::Net { n, t }) => told(b"Net", &[u64::from(n), u64::from(t)]),
+        Some(Command::Allow { station, allowance }) => {
+            told(b"Allow", &[u64::from(station), u64::from(allowance)])
+        }
+        Some(Command::Link { from, to, limit }) => {
+            told(b"Link", &[u64::from(from), u64::from(to), u64::from(limit)])
+        }
+        Some(Command::Enter { station, register }) => {
+            told(b"Enter", &[u64::from(station), u64::from(register)])
+        }
+        Some(
+            Command::Send {
+                station,
+                peer,
+                register,
+            },
+        ) => told(
+            b"Send",
+            &[u64::from(station), u64::from(peer), u64::from(register)],
+        ),
+        Some(Command::Recv { station, peer }) => {
+            told(b"Recv", &[u64::from(station), u64::from(peer)])
+        }
+        Some(Command::Start { station }) => told(b"Start", &[u64::from(station)]),
+        None => told(b"Bad", &[]),
     }
-    have
 }
 
 // The bytes of one read.
-fn feed(bytes: &[u8], line: &mut [u8], have: usize) -> usize
-    requires { (have ≤ line_size) × (length line.old ≡ line_size) }
-    ensures { result ≤ line_size }
-{
-    let mut n = have;
-    let mut at = 0;
-    while at < bytes.len() {
-        let f = turnover_input::lines::fill(line, n, bytes, at);
-        at = f.next;
-        n = settle(line, f);
+fn feed(line: &mut Line, bytes: &[u8]) {
+    let mut rest = bytes;
+    while !rest.is_empty() {
+        let Some(left) = line.fill(rest) else {
+            return;
+        };
+        show(line.command());
+        *line = Line::new();
+        rest = left;
     }
-    n
 }
 
-// One read, of few bytes, so that most lines come in parts.
-fn turn(input: &mut impl Read, line: &mut [u8], have: usize) -> Reading
-    requires { (have ≤ line_size) × (length line.old ≡ line_size) }
-    ensures { result.have ≤ line_size }
-{
+// Reads of few bytes, so that most lines come in parts. Nothing says that the input ends, so the reads are counted, up to a number that no run
+// gets to.
+fn commands(input: &mut impl Read) {
+    let mut line = Line::new();
     let mut buf = [0u8; 7];
-    match input.read(&mut buf) {
-        Ok(0) => Reading { have, open: false },
-        Ok(n) => Reading {
-            have: feed(&buf[..n], line, have),
-            open: true,
-        },
-        Err(_) => Reading { have, open: false },
-    }
-}
-
-// Nothing says that the input ends, so the reads are counted down from a number that no run uses up.
-fn commands(input: &mut impl Read, line: &mut [u8])
-    requires { length line.old ≡ line_size }
-{
-    let mut s = Reading {
-        have: 0,
-        open: true,
-    };
-    let mut turns = u64::MAX;
-    while turns > 0 {
-        let open = s.open;
-        if !open {
-            break;
+    for _ in 0..u64::MAX {
+        match input.read(&mut buf) {
+            Ok(0) | Err(_) => break,
+            Ok(n) => feed(&mut line, &buf[..n]),
         }
-        let have = s.have;
-        s = turn(input, line, have);
-        turns -= 1;
     }
-    let have = s.have;
-    if have > 0 {
-        show(turnover_input::lines::said(line, have));
+    if !line.is_empty() {
+        show(line.command());
     }
 }
 
@@ -166,44 +95,82 @@ fn present(out: &[u8], end: usize) {
 
 fn entry(number: u64, phase: u32, station: u8, counts: [u16; 8], n: u8) {
     let mut out = [b'.'; 99];
-    let end = turnover_output::answer::entry(&mut out, 5, number, phase, station, counts, n);
+    let end = answer::entry(&mut out, 5, number, phase, station, counts, n);
     present(&out, end);
 }
 
 fn receipt(number: u64, phase: u32, station: u8, counts: [u16; 8], n: u8, news: u8) {
     let mut out = [b'.'; 99];
-    let end = turnover_output::answer::receipt(
-        &mut out, 5, number, phase, station, counts, n, news,
-    );
+    let end = answer::receipt(&mut out, 5, number, phase, station, counts, n, news);
     present(&out, end);
 }
 
-fn mode(number: u64, phase: u32, station: u8, mode: u8) {
+fn mode(number: u64, phase: u32, station: u8, mode: Mode) {
     let mut out = [b'.'; 99];
-    let end = turnover_output::answer::mode(&mut out, 5, number, phase, station, mode);
+    let end = answer::mode(&mut out, 5, number, phase, station, mode);
     present(&out, end);
 }
 
-fn refused(number: u64, refusal: u8) {
+// The refusal of a number; 0, 9 and those past the last have none.
+fn refusal_of(k: u8) -> Option<Refusal> {
+    match k {
+        1 => Some(Refusal::Malformed),
+        2 => Some(Refusal::IllFormedState),
+        3 => Some(Refusal::NetworkRule),
+        4 => Some(Refusal::NoSuchStation),
+        5 => Some(Refusal::ModeForbids),
+        6 => Some(Refusal::UsedUp),
+        7 => Some(Refusal::EmptyLink),
+        8 => Some(Refusal::NoMorePhases),
+        10 => Some(Refusal::DifferentPhases),
+        11 => Some(Refusal::BufferLength),
+        12 => Some(Refusal::NoSuchRecord),
+        13 => Some(Refusal::IllKept),
+        _ => None,
+    }
+}
+
+// The line of a number that no refusal has, piece by piece.
+fn unnamed(out: &mut [u8], at: usize, k: u8) -> usize
+    requires { at + 7 ≤ length out.old }
+{
+    let a = text::word(out, at, b"no ");
+    let b = text::number(out, a, u64::from(k));
+    text::word(out, b, b"\n")
+}
+
+fn unnamed_step(out: &mut [u8], number: u64, k: u8) -> usize
+    requires { 33 ≤ length out.old }
+{
+    let a = text::number(out, 5, number);
+    let b = text::word(out, a, b" ");
+    unnamed(out, b, k)
+}
+
+fn refused(number: u64, k: u8) {
     let mut out = [b'.'; 99];
-    let end = turnover_output::answer::refused(&mut out, 5, number, refusal);
+    let end = match refusal_of(k) {
+        Some(refusal) => answer::refused(&mut out, 5, number, refusal),
+        None => unnamed_step(&mut out, number, k),
+    };
     present(&out, end);
 }
 
-fn others(refusal: u8) {
+fn others(k: u8) {
     let mut out = [b'.'; 99];
-    let end = turnover_output::answer::setup_refused(&mut out, 5, refusal);
+    let end = match refusal_of(k) {
+        Some(refusal) => answer::setup_refused(&mut out, 5, refusal),
+        None => unnamed(&mut out, 5, k),
+    };
     present(&out, end);
-    let last = turnover_output::answer::bad(&mut out, 5);
+    let last = answer::bad(&mut out, 5);
     present(&out, last);
 }
 
 fn entries() {
     let mixed = [0u16, 1, 9, 10, 99, 100, 65534, 65535];
-    let mut n = 0;
-    while n < 11 {
-        entry(n as u64, 999999, n, mixed, n);
-        n += 1;
+    for n in 0u8..11 {
+        entry(u64::from(n), 999999, n, mixed, n);
     }
     entry(u64::MAX, u32::MAX, 255, [65535; 8], 255);
     entry(18446744073709551609, 1000000, 100, [10000; 8], 8);
@@ -215,10 +182,8 @@ fn entries() {
 
 fn receipts() {
     let mixed = [0u16, 1, 9, 10, 99, 100, 65534, 65535];
-    let mut n = 0;
-    while n < 11 {
-        receipt(n as u64, 999999, n, mixed, n, n);
-        n += 1;
+    for n in 0u8..11 {
+        receipt(u64::from(n), 999999, n, mixed, n, n);
     }
     receipt(u64::MAX, u32::MAX, 255, [65535; 8], 255, 255);
     receipt(4, 0, 1, [2, 1, 0, 0, 0, 0, 0, 0], 2, 1);
@@ -228,21 +193,22 @@ fn receipts() {
 }
 
 fn modes() {
-    let mut m = 0;
-    while m < 5 {
-        mode(100 + m as u64, 999999, m, m);
-        m += 1;
+    for m in 0u8..5 {
+        let word = match m {
+            0 => Mode::Normal,
+            1 => Mode::Mute,
+            _ => Mode::StandBy,
+        };
+        mode(100 + u64::from(m), 999999, m, word);
     }
-    mode(u64::MAX, u32::MAX, 255, 255);
-    mode(3, 0, 1, 1);
+    mode(u64::MAX, u32::MAX, 255, Mode::StandBy);
+    mode(3, 0, 1, Mode::Mute);
 }
 
 fn refusals() {
-    let mut k = 0;
-    while k < 14 {
-        refused(99999 + k as u64, k);
+    for k in 0u8..14 {
+        refused(99999 + u64::from(k), k);
         others(k);
-        k += 1;
     }
     refused(u64::MAX, 255);
     others(255);
@@ -250,8 +216,7 @@ fn refusals() {
 
 fn main(rt: HostRuntime) {
     let mut input = rt.reader();
-    let mut line = [0u8; 32];
-    commands(&mut input, &mut line);
+    commands(&mut input);
     entries();
     receipts();
     modes();

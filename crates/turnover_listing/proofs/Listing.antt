@@ -151,7 +151,7 @@ fit = (refl, (refl, (refl, (refl, (refl, (refl, (refl, (refl, (refl, (refl, (ref
 
 first_step : transcript (standing setting block (blank 65536)) steps ≡ transcript (at pair 7 pair.allowances (head_block pair) 0 (image pair (initial vector pair))) steps
 first_step =
-    same_line (before 2 7 pair.allowances block (blank 65536)) (behind 2 7 pair.allowances block (blank 65536) (head_block pair) (image pair (initial vector pair))) (ascii "enter 0 501") later (Enter 0 501) says.0
+    same_line (before 2 7 pair.allowances block (blank 65536)) (behind 2 7 pair.allowances block (blank 65536) (head_block pair) (image pair (initial vector pair))) (ascii "enter 0 501") later (Some (Enter 0 501)) says.0
     (first_line 2 7 pair.allowances block (blank 65536) (head_block pair) (image pair (initial vector pair)) (made pair block table_is block-long accepted.0)
     (rw accepted.1 at (set_up_lem pair block table_is block-long accepted.0)) (enter 0 501))
 
