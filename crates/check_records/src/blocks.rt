@@ -1,10 +1,10 @@
 // Entries blocks.
 ghost use Rattle.std.specs.Prelude.{◌<◌, ◌≤◌};
 
-use check_vectors::{Left, Line};
+use check_vectors::{Kind, Left, Line};
 use entries::EntriesRead;
 use header::Header;
-use record::{Kind, Record};
+use record::Record;
 use refusals::{Refusal, told};
 use std::io;
 
@@ -14,9 +14,9 @@ fn nth(k: usize) -> Record
 {
     let j = (k + 1) % 8;
     let (kind, peer) = match k % 3 {
-        0 => (Kind::Own, 255),
-        1 => (Kind::Sent, j as u8),
-        _ => (Kind::Received, j as u8),
+        0 => (record::Kind::Own, 255),
+        1 => (record::Kind::Sent, j as u8),
+        _ => (record::Kind::Received, j as u8),
     };
     Record {
         kind: kind.into(),
@@ -102,7 +102,8 @@ fn refused(good: &[u8], at: usize, own: bool, x: usize, station: bool) -> usize
             let i = *k % 8;
             let p = at + *k * 32 + if own { i * 2 } else { 0 };
             let y = x + if station { i } else { 0 };
-            check_vectors::resealed(2, good, p, (y % 256) as u8) == 1
+            check_vectors::resealed(Kind::Entries, good, p, (y % 256) as u8)
+                == Err(Refusal::Malformed)
         })
         .count()
 }

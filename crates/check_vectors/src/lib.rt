@@ -12,7 +12,7 @@ use clock::Verdict;
 pub use line::{Line, text};
 use refusals::Refusal;
 use std::fmt;
-pub use sweeps::{record_answer, resealed, sweep, table};
+pub use sweeps::{Kind, record_answer, resealed, sweep, table};
 
 pub fn poke(d: &mut [u8], at: usize, x: u8) {
     if at < d.len() {

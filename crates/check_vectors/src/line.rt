@@ -4,7 +4,7 @@ ghost use Rattle.std.specs.Prelude.{◌≤◌};
 use std::array;
 use std::io::{ErrorKind, Result};
 
-// The standard input, read whole into the room for it.
+// The standard input, read whole into the room for it: line by line it would take a heap.
 pub fn text(room: &mut [u8]) -> Result<&str> {
     let n = io::read_full(0, room);
     match str::from_utf8(&room[..n]) {
