@@ -5,13 +5,14 @@
 // byte raised; 15 ends a line.
 #![tactic(auto)]
 
-ghost use Rattle.std.specs.Prelude.{◌≡◌, ◌*◌, ◌<◌, ◌≤◌, length};
+ghost use Rattle.std.specs.Prelude.{◌<◌, ◌≤◌};
 
-use archive::Counted;
+use check_vectors::{Line, Told};
 use clock::Verdict;
 use header::Header;
-use record::Record;
-use verdict::Compared;
+use record::{Kind, Record};
+use refusals::Refusal;
+use std::{array, io};
 
 // ---- the archives
 // Timestamps that rise slowly with the record's number: near ones are unordered or before and after, two at a time are the same.
@@ -19,306 +20,151 @@ fn counts_of(k: usize) -> [u16; 8]
     requires { k < 10000 }
 {
     let m = k / 2;
-    let mut c = [0u16; 8];
-    let mut i = 0;
-    while i < 8 {
-        c[i] = (1 + m / 3 + (m + 3 * i) % 5) as u16;
-        i += 1;
-    }
-    c
-}
-
-fn peer_of(kind: u8, station: u8) -> u8
-    requires { station < 8 }
-{
-    if kind == 1 { 255 } else { (station + 1) % 8 }
+    array::from_fn(|i| (1 + m / 3 + (m + 3 * (i % 8)) % 5) as u16)
 }
 
 // Record k: three phases in turn, all stations, all kinds.
 fn event(k: usize) -> Record
     requires { k < 10000 }
 {
-    let kind = (1 + k / 3 % 3) as u8;
-    let station = (k % 8) as u8;
-    let counts = counts_of(k);
+    let next = ((k + 1) % 8) as u8;
+    let (kind, peer) = match k / 3 % 3 {
+        0 => (Kind::Own, 255),
+        1 => (Kind::Sent, next),
+        _ => (Kind::Received, next),
+    };
     Record {
-        kind,
-        station,
-        peer: peer_of(kind, station),
+        kind: kind.into(),
+        station: (k % 8) as u8,
+        peer,
         phase: (k % 3) as u32,
         register: k as u32,
-        counts,
+        counts: counts_of(k),
     }
 }
 
-fn place(d: &mut [u8], o: usize, r: Record)
-    requires { o ≤ 480 }
+// The bytes of `count` records, and zeros.
+fn records(count: usize) -> [u8; 96000]
+    requires { count ≤ 3000 }
 {
-    let e = o + 32;
-    if e <= d.len() {
-        record::store(&mut d[o..e], r);
-    }
-}
-
-// The bytes of 15 records from number `first` on.
-fn records(first: usize) -> [u8; 480]
-    requires { first < 9000 }
-{
-    let mut rs = [0u8; 480];
-    let mut j = 0;
-    while j < 15 {
-        place(&mut rs, j * 32, event(first + j));
-        j += 1;
+    let mut rs = [0u8; 96000];
+    for k in 0..count {
+        check_vectors::place(&mut rs, k, event(k));
     }
     rs
 }
 
-fn at_most_15(n: usize) -> usize
-    ensures { result ≤ 15 }
+// An archive of `count` records.
+fn make(a: &mut [u8], count: usize)
+    requires { count ≤ 3000 }
 {
-    if n < 15 { n } else { 15 }
-}
-
-// Block b of `count` records in all, from 0.
-fn block(a: &mut [u8], b: usize, count: usize)
-    requires { (b * 15 ≤ count) × (count < 9000) }
-{
-    let first = b * 15;
-    let o = b * 512 + 512;
-    let e = o + 512;
-    if e <= a.len() {
-        let rs = records(first);
-        let size = at_most_15(count - first) * 32;
-        entries::write((b + 1) as u32, &rs[0..size], &mut a[o..e]);
-    }
-}
-
-fn head(a: &mut [u8]) {
     let h = Header {
         n: 8,
         t: 2000,
         allowances: [0u16; 8],
     };
-    header::write(h, [[5u8; 8]; 8], a);
+    let rs = records(count);
+    check_vectors::archive(a, h, [[5u8; 8]; 8], &rs[..count * 32]);
 }
 
-// An archive of `count` records.
-fn make(a: &mut [u8], count: usize)
-    requires { count < 9000 }
+// Block 2 with `count` records.
+fn second_block(a: &mut [u8], count: usize)
+    requires { count ≤ 15 }
 {
-    head(a);
-    let mut b = 0;
-    while b * 15 < count {
-        block(a, b, count);
-        b += 1;
-    }
+    let rs = records(30);
+    let _ = check_vectors::block(a, 2, &rs[480..480 + count * 32]);
 }
 
 // ---- what is written
-fn say(name: &[u8], k: usize) {
-    io::write_all(1, name);
-    io::print_decimal(1, k as u64);
-}
-
-// The numbers of a list, a space before each.
-fn show(list: &[u64]) {
-    let mut i = 0;
-    while i < list.len() {
-        io::write_all(1, b" ");
-        io::print_decimal(1, list[i]);
-        i += 1;
-    }
-}
-
-// How many places still hold what they held at first.
-fn untouched(list: &[u64]) -> usize {
-    let mut n = 0;
-    let mut i = 0;
-    while i < list.len() {
-        if list[i] == 77777 {
-            n += 1;
+// The list of a record with so many places, the first of a thousand.
+fn list(rt: &impl Print, a: &[u8], s: Line) -> io::Result<()> {
+    let mut all = [77777u64; 1000];
+    match concurrent::unordered(a, s.size(3), &mut all[..s.up_to(4, 1000)]) {
+        Ok(n) => {
+            print!(rt; ": count {n}")?;
+            for x in all.iter().take(n) {
+                print!(rt; " {x}")?;
+            }
         }
-        i += 1;
+        Err(refusal) => print!(rt; ": refused {}", u8::from(refusal))?,
     }
-    n
-}
-
-// The list of record r in the first places of a longer one.
-fn tell(a: &[u8], r: usize, places: usize, all: &mut [u64])
-    requires { places ≤ length all.old }
-{
-    match concurrent::unordered(a, r, &mut all[0..places]) {
-        Counted::Count(n) => {
-            say(b": count ", n);
-            show(&all[0..n]);
-        }
-        Counted::Refused(k) => {
-            say(b": refused ", k as usize);
-        }
-    }
-    say(b", left ", untouched(all));
-}
-
-fn blank() -> [u64; 1000] {
-    [77777u64; 1000]
-}
-
-// The list of a record with so many places.
-fn list(a: &[u8], s: &[u8]) {
-    let mut all = blank();
-    tell(
-        a,
-        check_vectors::size(s, 3),
-        check_vectors::up_to(s, 4, 1000),
-        &mut all,
-    );
-    check_vectors::end();
+    let left = all.iter().filter(|x| **x == 77777).count();
+    println!(rt; ", left {left}")
 }
 
 // The verdict on two found records; a record that is not found is refused as the archive refuses it.
-fn found_verdict(a: &[u8], first: usize, second: usize) -> Compared {
-    let k = archive::find(a, first);
-    if k != 0 {
-        return Compared::Refused(k);
-    }
-    let l = archive::find(a, second);
-    if l != 0 {
-        return Compared::Refused(l);
-    }
+fn found_verdict(a: &[u8], first: usize, second: usize) -> Result<Verdict, Refusal> {
+    archive::find(a, first)?;
+    archive::find(a, second)?;
     verdict::compare(archive::found(a, first), archive::found(a, second))
 }
 
-fn order(a: &[u8], first: usize, second: usize) {
-    match found_verdict(a, first, second) {
-        Compared::Ordered(v) => match v {
-            Verdict::Before => {
-                io::write_all(1, b" before");
-            }
-            Verdict::After => {
-                io::write_all(1, b" after");
-            }
-            Verdict::Same => {
-                io::write_all(1, b" same");
-            }
-            Verdict::Unordered => {
-                io::write_all(1, b" unordered");
-            }
-        },
-        Compared::Refused(k) => {
-            say(b" ", k as usize);
-        }
-    }
+fn order(rt: &impl Print, a: &[u8], first: usize, second: usize) -> io::Result<()> {
+    print!(rt; " {}", Told(found_verdict(a, first, second)))
 }
 
 // How a record stands to every other, and to one past the last.
-fn orders(a: &[u8], s: &[u8]) {
-    let count = check_vectors::up_to(s, 3, 9000);
-    let mut second = 0;
-    while second <= count {
-        order(a, check_vectors::size(s, 4), second);
-        second += 1;
+fn orders(rt: &impl Print, a: &[u8], s: Line) -> io::Result<()> {
+    for second in 0..=s.up_to(3, 9000) {
+        order(rt, a, s.size(4), second)?;
     }
-    check_vectors::end();
+    println!(rt; "")
 }
 
 // How many records the bytes hold, or the refusal.
-fn total(a: &[u8]) {
+fn total(rt: &impl Print, a: &[u8]) -> io::Result<()> {
     match archive::count(a) {
-        Counted::Count(n) => {
-            say(b": records ", n);
-        }
-        Counted::Refused(k) => {
-            say(b": refused ", k as usize);
-        }
-    }
-    check_vectors::end();
-}
-
-fn view(k: u64, a: &[u8], s: &[u8]) {
-    match k {
-        1 => {
-            list(a, s);
-        }
-        2 => {
-            orders(a, s);
-        }
-        3 => {
-            order(a, check_vectors::size(s, 3), check_vectors::size(s, 4));
-        }
-        _ => {
-            total(a);
-        }
+        Ok(n) => println!(rt; ": records {n}"),
+        Err(refusal) => println!(rt; ": refused {}", u8::from(refusal)),
     }
 }
 
 // ---- the bytes
 // A byte of a block is set, and the block sealed.
-fn reseal(a: &mut [u8], s: &[u8]) {
-    let o = check_vectors::up_to(s, 1, 3) * 512;
+fn reseal(a: &mut [u8], s: Line) {
+    let o = s.up_to(1, 3) * 512;
     let e = o + 512;
     if e <= a.len() {
-        check_vectors::poke(
-            a,
-            o + check_vectors::up_to(s, 2, 511),
-            check_vectors::byte(s, 3),
-        );
+        check_vectors::poke(a, o + s.up_to(2, 511), s.byte(3));
         check_vectors::seal(&mut a[o..e]);
     }
 }
 
-fn change(k: u64, a: &mut [u8], s: &[u8]) {
-    match k {
-        10 => {
-            make(a, check_vectors::up_to(s, 1, 3000));
-        }
-        11 => {
-            block(a, 1, 15 + check_vectors::up_to(s, 1, 15));
-        }
-        12 => {
-            reseal(a, s);
-        }
-        13 => {
-            check_vectors::poke(a, check_vectors::size(s, 1), check_vectors::byte(s, 2));
-        }
-        14 => {
-            check_vectors::lift(a, check_vectors::size(s, 1), check_vectors::byte(s, 2));
-        }
-        _ => {
-            check_vectors::end();
-        }
+fn view(rt: &impl Print, a: &[u8], s: Line) -> io::Result<()> {
+    match s.number(0) {
+        1 => list(rt, a, s),
+        2 => orders(rt, a, s),
+        3 => order(rt, a, s.size(3), s.size(4)),
+        _ => total(rt, a),
     }
 }
 
-fn case(a: &mut [u8], s: &[u8]) {
-    check_vectors::label(s);
-    let k = check_vectors::field(s, 0);
-    if k < 10 {
-        let to = check_vectors::up_to(s, 2, a.len());
-        let from = check_vectors::up_to(s, 1, to);
-        view(k, &a[from..to], s);
-    } else {
-        change(k, a, s);
+fn change(rt: &impl Print, a: &mut [u8], s: Line) -> io::Result<()> {
+    match s.number(0) {
+        10 => make(a, s.up_to(1, 3000)),
+        11 => second_block(a, s.up_to(1, 15)),
+        12 => reseal(a, s),
+        13 => check_vectors::poke(a, s.size(1), s.byte(2)),
+        14 => check_vectors::lift(a, s.size(1), s.byte(2)),
+        _ => println!(rt; "")?,
     }
+    Ok(())
 }
 
-fn area() -> [u8; 102912]
-    ensures { 102912 ≡ length result }
-{
-    [0u8; 102912]
-}
-
-fn lines(input: &[u8]) {
-    let mut a = area();
-    let mut at = 0;
-    while at < input.len() {
-        let end = check_vectors::find(input, at, b'\n');
-        case(&mut a, &input[at..end]);
-        at = end + 1;
+fn case(rt: &impl Print, a: &mut [u8; 102912], s: Line) -> io::Result<()> {
+    print!(rt; "{}", s.label())?;
+    if s.number(0) < 10 {
+        let to = s.up_to(2, 102912);
+        return view(rt, &a[s.up_to(1, to)..to], s);
     }
+    change(rt, a, s)
 }
 
-fn main() {
-    let mut input = io::large_buffer();
-    let n = io::read_full(0, &mut input);
-    lines(&input[0..n]);
+fn main(rt: HostRuntime) -> io::Result<()> {
+    let mut room = [0u8; 65536];
+    let mut a = [0u8; 102912];
+    for s in check_vectors::text(&mut room)?.lines() {
+        case(&rt, &mut a, Line(s))?;
+    }
+    Ok(())
 }
