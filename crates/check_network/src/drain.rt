@@ -1,7 +1,10 @@
 // Random steps, and receipts alone until none is accepted any more.
 ghost use Rattle.std.specs.Prelude.{◌<◌, ◌≤◌};
 
-use step_parts::answer::Stepped;
+use check_vectors::Line;
+use refusals::Refusal;
+use std::io;
+use step_parts::answer::Accepted;
 
 // The random number after x.
 fn next(x: u64) -> u64
@@ -18,101 +21,87 @@ fn drawn(x: u64, k: u32) -> u32
     (x / 65536) as u32 % k
 }
 
-// The stations that a line has; 1 for none.
-fn stations(s: &[u8]) -> u32
-    ensures { 0 < result }
-{
-    let n = check_vectors::word(s, 3);
-    if n == 0 { 1 } else { n }
-}
-
-fn step(area: &mut [u8], kind: u32, i: u32, j: u32) -> Stepped {
+fn step(area: &mut [u8], kind: u32, i: u32, j: u32) -> Result<Accepted, Refusal> {
     match kind {
         0 => network::enter(area, i, 7),
-        1 | 2 | 3 => network::send(area, i, j, 7),
-        4 | 5 | 6 => network::recv(area, i, j),
+        1..=3 => network::send(area, i, j, 7),
+        4..=6 => network::recv(area, i, j),
         _ => network::start(area, i),
     }
 }
 
 // Random steps by a line: how many, a number to start from, and the stations. A refused one counts too.
-pub fn walk(area: &mut [u8; 65536], s: &[u8]) {
-    let steps = check_vectors::field(s, 1);
-    let n = stations(s);
-    let mut x = check_vectors::field(s, 2);
-    let mut k = 0;
-    while k < steps {
+pub fn walk(area: &mut [u8], s: Line) {
+    let n = s.word(3).max(1);
+    let mut x = s.number(2);
+    for _ in 0..s.number(1) {
         let kind = next(x);
         let i = next(kind);
         let j = next(i);
-        step(area, drawn(kind, 8), drawn(i, n), drawn(j, n));
+        let _ = step(area, drawn(kind, 8), drawn(i, n), drawn(j, n));
         x = j;
-        k += 1;
     }
 }
 
-// One receipt: the first that is accepted of 64, from number a on, each b after the one before; number k is station k / 8 receiving from
-// k % 8. False where none is accepted.
-fn taken(area: &mut [u8; 65536], a: u32, b: u32) -> bool
-    requires { (a < 64) × (b < 64) }
+// The receipts that a round tries, one after another: rising from 0, falling from 63, or rising from a random one.
+#[derive(Clone, Copy)]
+enum Order {
+    Rising,
+    Falling,
+    Random,
+}
+
+impl From<u64> for Order {
+    fn from(k: u64) -> Order {
+        match k {
+            0 => Order::Rising,
+            1 => Order::Falling,
+            _ => Order::Random,
+        }
+    }
+}
+
+// The m-th receipt of a round.
+fn nth(order: Order, x: u64, m: u32) -> u32
+    requires { (x < 2147483648) × (m < 64) }
 {
-    let mut k = a;
-    let mut m: u32 = 0;
-    while m < 64 {
-        if crate::show::refusal(network::recv(area, k / 8, k % 8)) == 0 {
+    match order {
+        Order::Rising => m,
+        Order::Falling => 63 - m,
+        Order::Random => (drawn(x, 64) + m) % 64,
+    }
+}
+
+// One receipt: the first that is accepted of a round's 64; number k is station k / 8 receiving from k % 8. False where none is accepted.
+fn taken(area: &mut [u8], order: Order, x: u64) -> bool
+    requires { x < 2147483648 }
+{
+    for m in 0..64 {
+        let k = nth(order, x, m);
+        if network::recv(area, k / 8, k % 8).is_ok() {
             return true;
         }
-        k = (k + b) % 64;
-        m += 1;
     }
     false
 }
 
-// The number of the first receipt that a round tries, and how far apart they are: rising from 0, falling from 63, or rising from a random one.
-fn first(order: u64, x: u64) -> u32
-    requires { x < 2147483648 }
-    ensures { result < 64 }
-{
-    match order {
-        0 => 0,
-        1 => 63,
-        _ => drawn(x, 64),
-    }
-}
-
-fn apart(order: u64) -> u32
-    ensures { result < 64 }
-{
-    if order == 1 { 63 } else { 1 }
-}
-
 // How many receipts are accepted, one in each round, before a round in which none is.
-fn rounds(area: &mut [u8; 65536], order: u64, seed: u64) -> u64 {
+fn rounds(area: &mut [u8], order: Order, seed: u64) -> u32 {
     let mut x = seed;
-    let mut n: u64 = 0;
-    while n < 65536 {
+    for n in 0..65536 {
         x = next(x);
-        if !taken(area, first(order, x), apart(order)) {
+        if !taken(area, order, x) {
             return n;
         }
-        n += 1;
     }
-    n
+    65536
 }
 
-// The same by a line: their order, and a number to start from. Shown are the receipts to rest before, how many were accepted, and rest after.
-fn emptied(area: &mut [u8; 65536], s: &[u8]) {
-    crate::show::left(receipts::to_rest(area));
-    check_vectors::put(
-        b" ",
-        rounds(area, check_vectors::field(s, 1), check_vectors::field(s, 2)),
-    );
-    crate::show::rest_word(quiescence::rest(area));
-}
-
-// The same on a copy of the area, which stays.
-pub fn drain(area: &[u8], s: &[u8]) {
-    let mut copy = io::large_buffer();
-    check_vectors::copy(&mut copy, area);
-    emptied(&mut copy, s);
+// The same by a line, on a copy of the area, which stays: their order, and a number to start from. Shown are the receipts to rest before, how
+// many were accepted, and rest after.
+pub fn drain(rt: &impl Print, area: &[u8; 65536], s: Line) -> io::Result<()> {
+    let mut copy = *area;
+    crate::show::left(rt, receipts::to_rest(&copy))?;
+    print!(rt; " {}", rounds(&mut copy, s.number(1).into(), s.number(2)))?;
+    crate::show::rest(rt, quiescence::rest(&copy))
 }

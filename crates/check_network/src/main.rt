@@ -6,169 +6,104 @@ mod drain;
 mod setups;
 mod show;
 
-ghost use Rattle.std.specs.Prelude.{◌<◌, ◌≤◌};
-
-use step_parts::answer::Stepped;
+use check_vectors::Line;
+use refusals::{Refusal, told};
+use std::io;
+use step_parts::answer::Accepted;
 
 // A step by its line: the call, how many counts are shown, a station, its peer, a register number, and the number of the step.
-fn stepped(area: &mut [u8], k: u64, s: &[u8]) -> Stepped {
-    let i = check_vectors::word(s, 2);
+fn stepped(area: &mut [u8], k: u64, s: Line) -> Result<Accepted, Refusal> {
+    let i = s.word(2);
     match k {
-        1 => network::enter(area, i, check_vectors::word(s, 4)),
-        2 => network::send(
-            area,
-            i,
-            check_vectors::word(s, 3),
-            check_vectors::word(s, 4),
-        ),
-        3 => network::recv(area, i, check_vectors::word(s, 3)),
+        1 => network::enter(area, i, s.word(4)),
+        2 => network::send(area, i, s.word(3), s.word(4)),
+        3 => network::recv(area, i, s.word(3)),
         _ => network::start(area, i),
     }
 }
 
-// A call on an area of any length: 1 to 4 a step, 5 rest, 6 receipts to rest.
-fn call(area: &mut [u8], k: u64, s: &[u8]) {
-    if k == 5 {
-        show::rest(s, quiescence::rest(area));
-    } else if k == 6 {
-        show::receipts(s, receipts::to_rest(area));
-    } else {
-        show::answer(s, check_vectors::word(s, 2), stepped(area, k, s));
+// A call on an area of any length: 1 to 4 a step, 5 rest, 6 receipts to rest. The number is the input's; an enum would be matched twice for it.
+fn call(rt: &impl Print, area: &mut [u8], k: u64, s: Line) -> io::Result<()> {
+    print!(rt; "{}", s.number(5))?;
+    match k {
+        5 => show::rest(rt, quiescence::rest(area)),
+        6 => {
+            print!(rt; " receipts")?;
+            show::left(rt, receipts::to_rest(area))?;
+            println!(rt; "")
+        }
+        _ => show::answer(rt, s.byte(1), s.word(2), stepped(area, k, s)),
     }
 }
 
 // A receipt, shown unless there is nothing to take.
-fn taken(area: &mut [u8; 65536], s: &[u8], i: u32, j: u32) {
+fn taken(rt: &impl Print, area: &mut [u8; 65536], s: Line, i: u32, j: u32) -> io::Result<()> {
     let r = network::recv(area, i, j);
-    let refusal = show::refusal(r);
-    if (refusal != 4) & (refusal != 7) {
-        show::answer(s, i, r);
+    if matches!(r, Err(Refusal::NoSuchStation | Refusal::EmptyLink)) {
+        return Ok(());
     }
+    print!(rt; "{}", s.number(5))?;
+    show::answer(rt, s.byte(1), i, r)
 }
 
 // A receipt by every station from every station.
-fn receipts(area: &mut [u8; 65536], s: &[u8]) {
-    let mut k = 0;
-    while k < 64 {
-        taken(area, s, k / 8, k % 8);
-        k += 1;
+fn receipts(rt: &impl Print, area: &mut [u8; 65536], s: Line) -> io::Result<()> {
+    for k in 0..64 {
+        taken(rt, area, s, k / 8, k % 8)?;
     }
-}
-
-// A call on all bytes but the last.
-fn short(area: &mut [u8], k: u64, s: &[u8]) {
-    let n = area.len();
-    if n > 0 {
-        call(&mut area[0..n - 1], k, s);
-    }
+    Ok(())
 }
 
 // What a step of station 200 answers on the area with one byte raised: 2 where that is no image, else 4. The byte is lowered again.
 fn flipped(area: &mut [u8; 65536], at: usize, by: u8) -> u8 {
     check_vectors::lift(area, at, by);
     let r = network::enter(area, 200, 0);
-    check_vectors::lift(area, at, std::num::wrapping_sub_u8(0, by));
-    show::refusal(r)
+    check_vectors::lift(area, at, by.wrapping_neg());
+    told(r.map(|_| ()))
 }
 
 // How many of the bytes, each raised alone, have the answer k.
-fn flips(area: &mut [u8; 65536], k: u8, by: u8) -> u64 {
-    let mut n: u64 = 0;
-    let mut p = 0;
-    while p < 65536 {
-        n += check_vectors::one(flipped(area, p, by) == k);
-        p += 1;
+fn flips(area: &mut [u8; 65536], k: u8, by: u8) -> u32 {
+    let mut n = 0;
+    for p in 0..65536 {
+        if flipped(area, p, by) == k {
+            n += 1;
+        }
     }
     n
 }
 
-fn change(area: &mut [u8; 65536], k: u64, s: &[u8]) {
-    match k {
-        6 => {
-            check_vectors::poke(area, check_vectors::size(s, 2), check_vectors::byte(s, 3));
-        }
-        7 => {
-            receipts(area, s);
-        }
-        8 => {
-            setups::sevens(area);
-        }
-        9 => {
-            setups::lent(area, s);
-        }
-        10 => {
-            check_vectors::say(b" ", setups::lent(area, s));
-        }
-        _ => {
-            check_vectors::put(
-                b" ",
-                flips(area, check_vectors::byte(s, 1), check_vectors::byte(s, 2)),
-            );
-        }
-    }
-}
-
-fn drive(area: &mut [u8; 65536], k: u64, s: &[u8]) {
-    match k {
-        12 => {
-            drain::walk(area, s);
-        }
-        13 => {
-            drain::drain(area, s);
-        }
-        _ => {
-            call(area, 6, s);
-        }
-    }
-}
-
-// 30 ends a line; 31 the bytes that are not 7; 32 the digest.
-fn sum_up(area: &[u8], k: u64) {
-    match k {
-        30 => {
-            check_vectors::end();
-        }
-        31 => {
-            check_vectors::say(b" ", check_vectors::others(area, 7));
-        }
-        _ => {
-            check_vectors::say(b" ", check_vectors::digest(area));
-        }
-    }
-}
-
 // Calls: 1 enter, 2 send, 3 recv, 4 start, 5 rest, 14 receipts to rest; 21 to 26 the same on all bytes of the area but the last; 6 sets a
 // byte; 7 is a receipt by every station from every station, and shows those that are accepted; 8 sets all bytes to 7; 9 setup, 10 with its
-// answer; 11 raises each byte alone; 12 random steps; 13 receipts alone on a copy, until none is accepted; from 30 on what is written of the
-// area.
-fn case(area: &mut [u8; 65536], s: &[u8]) {
-    check_vectors::label(s);
-    let k = check_vectors::field(s, 0);
-    if k < 6 {
-        call(area, k, s);
-    } else if k < 12 {
-        change(area, k, s);
-    } else if k < 20 {
-        drive(area, k, s);
-    } else if k < 30 {
-        short(area, k % 10, s);
-    } else {
-        sum_up(area, k);
+// answer; 11 raises each byte alone; 12 random steps; 13 receipts alone on a copy, until none is accepted; 30 ends a line; 31 is the bytes
+// that are not 7; 32 the digest.
+fn case(rt: &impl Print, area: &mut [u8; 65536], s: Line) -> io::Result<()> {
+    print!(rt; "{}", s.label())?;
+    let k = s.number(0);
+    match k {
+        0..=5 => call(rt, area, k, s)?,
+        6 => check_vectors::poke(area, s.size(2), s.byte(3)),
+        7 => receipts(rt, area, s)?,
+        8 => area.fill(7),
+        9 => drop(setups::lent(area, s)),
+        10 => println!(rt; " {}", told(setups::lent(area, s)))?,
+        11 => print!(rt; " {}", flips(area, s.byte(1), s.byte(2)))?,
+        12 => drain::walk(area, s),
+        13 => drain::drain(rt, area, s)?,
+        14..=19 => call(rt, area, 6, s)?,
+        20..=29 => call(rt, &mut area[..65535], k % 10, s)?,
+        30 => println!(rt; "")?,
+        31 => println!(rt; " {}", check_vectors::others(area, 7))?,
+        _ => println!(rt; " {}", check_vectors::digest(area))?,
     }
+    Ok(())
 }
 
-fn lines(input: &[u8]) {
-    let mut area = io::large_buffer();
-    let mut at = 0;
-    while at < input.len() {
-        let end = check_vectors::find(input, at, b'\n');
-        case(&mut area, &input[at..end]);
-        at = end + 1;
+fn main(rt: HostRuntime) -> io::Result<()> {
+    let mut room = [0u8; 65536];
+    let mut area = [0u8; 65536];
+    for s in check_vectors::text(&mut room)?.lines() {
+        case(&rt, &mut area, Line(s))?;
     }
-}
-
-fn main() {
-    let mut input = io::large_buffer();
-    let n = io::read_full(0, &mut input);
-    lines(&input[0..n]);
+    Ok(())
 }

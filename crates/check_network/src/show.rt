@@ -1,124 +1,60 @@
 // Answers, as lines.
-use quiescence::RestAnswer;
-use receipts::ReceiptsAnswer;
-use record::Record;
+use check_vectors::Spaced;
+use record::{Kind, Record};
+use refusals::Refusal;
 use station::Mode;
-use step_parts::answer::{Answer, Stepped};
+use std::io;
+use step_parts::answer::Accepted;
 
-fn word(mode: Mode) {
+fn word(mode: Mode) -> &'static str {
     match mode {
-        Mode::Normal => {
-            io::write_all(1, b" normal");
-        }
-        Mode::Mute => {
-            io::write_all(1, b" mute");
-        }
-        Mode::StandBy => {
-            io::write_all(1, b" stand-by");
-        }
+        Mode::Normal => "normal",
+        Mode::Mute => "mute",
+        Mode::StandBy => "stand-by",
     }
 }
 
-// The first n counts, a space before each.
-fn counts(c: [u16; 8], n: u8) {
-    let top = n as usize;
-    let mut i = 0;
-    while i < 8 {
-        if i < top {
-            check_vectors::put(b" ", check_vectors::wide16(c[i]));
-        }
-        i += 1;
-    }
+// An entry with its phase, its station and n counts.
+fn entry(rt: &impl Print, r: Record, n: u8) -> io::Result<()> {
+    let counts = &r.counts[..usize::from(n).min(8)];
+    print!(rt; " entry {} {}{}", r.phase, r.station, Spaced(counts))
 }
 
-fn entry(r: Record, n: u8) {
-    let c = r.counts;
-    check_vectors::put(b" entry ", r.phase as u64);
-    check_vectors::put(b" ", check_vectors::wide(r.station));
-    counts(c, n);
-}
-
-fn body(a: Answer, event: Record, station: u32, n: u8) {
-    match a {
-        Answer::Refused(k) => {
-            check_vectors::put(b" no ", check_vectors::wide(k));
-        }
-        Answer::Entered { news } => {
-            entry(event, n);
-            if event.kind == step_parts::answer::RECEIVED {
-                check_vectors::put(b" ", check_vectors::wide(news));
+// A step's answer: an entry, and a receipt's news; a mode with its phase and station; or a refusal.
+pub fn answer(
+    rt: &impl Print,
+    n: u8,
+    station: u32,
+    r: Result<Accepted, Refusal>,
+) -> io::Result<()> {
+    match r {
+        Err(refusal) => print!(rt; " no {}", u8::from(refusal))?,
+        Ok(Accepted::Entry { event, news }) => {
+            entry(rt, event, n)?;
+            if event.kind == u8::from(Kind::Received) {
+                print!(rt; " {news}")?;
             }
         }
-        Answer::InMode { mode, phase } => {
-            check_vectors::put(b" mode ", phase as u64);
-            check_vectors::put(b" ", station as u64);
-            word(mode);
+        Ok(Accepted::InMode { mode, phase }) => {
+            print!(rt; " mode {phase} {station} {}", word(mode))?;
         }
     }
-}
-
-fn number(s: &[u8]) {
-    io::print_decimal(1, check_vectors::field(s, 5));
-}
-
-// A step's answer: an entry with its phase, station and n counts, and a receipt's news; a mode with its phase and station; or a refusal.
-pub fn answer(s: &[u8], station: u32, r: Stepped) {
-    let a = r.answer;
-    let event = r.event;
-    number(s);
-    body(a, event, station, check_vectors::byte(s, 1));
-    check_vectors::end();
+    println!(rt; "")
 }
 
 // Whether it is at rest, and the line's end.
-pub fn rest_word(r: RestAnswer) {
+pub fn rest(rt: &impl Print, r: Result<bool, Refusal>) -> io::Result<()> {
     match r {
-        RestAnswer::Yes => {
-            io::write_all(1, b" rest yes\n");
-        }
-        RestAnswer::No => {
-            io::write_all(1, b" rest no\n");
-        }
-        RestAnswer::Refused(k) => {
-            check_vectors::say(b" rest refused ", check_vectors::wide(k));
-        }
+        Ok(true) => println!(rt; " rest yes"),
+        Ok(false) => println!(rt; " rest no"),
+        Err(refusal) => println!(rt; " rest refused {}", u8::from(refusal)),
     }
-}
-
-pub fn rest(s: &[u8], r: RestAnswer) {
-    number(s);
-    rest_word(r);
 }
 
 // How many receipts are left, or a refusal.
-pub fn left(r: ReceiptsAnswer) {
+pub fn left(rt: &impl Print, r: Result<u32, Refusal>) -> io::Result<()> {
     match r {
-        ReceiptsAnswer::Left(n) => {
-            check_vectors::put(b" ", n as u64);
-        }
-        ReceiptsAnswer::Refused(k) => {
-            check_vectors::put(b" refused ", check_vectors::wide(k));
-        }
+        Ok(n) => print!(rt; " {n}"),
+        Err(refusal) => print!(rt; " refused {}", u8::from(refusal)),
     }
-}
-
-pub fn receipts(s: &[u8], r: ReceiptsAnswer) {
-    number(s);
-    io::write_all(1, b" receipts");
-    left(r);
-    check_vectors::end();
-}
-
-fn refusal_of(a: Answer) -> u8 {
-    match a {
-        Answer::Refused(k) => k,
-        Answer::Entered { news: _ } => 0,
-        Answer::InMode { mode: _, phase: _ } => 0,
-    }
-}
-
-// The number of a refusal, or 0.
-pub fn refusal(r: Stepped) -> u8 {
-    let a = r.answer;
-    refusal_of(a)
 }

@@ -1,8 +1,5 @@
-use Rattle.std.proofs.Common.{◌-◌, ◌≤◌}
+use Rattle.std.proofs.Common.{◌≤◌}
 use Rattle.check_network.proofs.flips.Given as goal
 
 abbrev pub invariant-loop-p : goal.invariant-loop-p
 invariant-loop-p l = (l.n ≤ l.p) × (l.p ≤ 65536)
-
-abbrev pub decreases-loop-p : goal.decreases-loop-p
-decreases-loop-p l = 65536 - l.p
