@@ -8,8 +8,8 @@ use lib.ListN.{length, get_or}
 use borrow.Author.Tests.{leb-true, leb-false}
 use Rattle.std.specs.Prelude.{Result, Ok, Err}
 use Rattle.refusals.specs.declared.Refusal.{Refusal}
-use Rattle.refusals.specs.declared.Refusal.TheVariants.{Malformed, IllFormedState, NetworkRule, NoSuchStation, ModeForbids, UsedUp, EmptyLink, NoMorePhases, DifferentPhases, BufferLength, NoSuchRecord, IllKept, SheetTooLong}
 use Rattle.refusals.specs.Numbers.{number_of, told}
+use Rattle.step_parts.proofs.Refusals.{number-some}
 use Rattle.reset.specs.Reach.{limit}
 use Rattle.reset.specs.Config.{Config, is_station, neighbours, limit_at, places}
 use Rattle.reset.specs.Clock.{vector}
@@ -18,22 +18,6 @@ use Rattle.reset.specs.Steps.{send, refuse, may_send, do_send, step}
 use Rattle.reset.specs.WellFormed.{well_formed}
 use Rattle.step_outcomes.proofs.Outcome.{send_forbidden, send_used_up, send-full, send_no_room, send-done}
 use Rattle.enter_send.specs.Sending.{send_refusal}
-
--- no refusal has number 0
-some : (x : Refusal) → number_of x ≡ 0 → ⊥
-some Malformed e = omega arith
-some IllFormedState e = omega arith
-some NetworkRule e = omega arith
-some NoSuchStation e = omega arith
-some ModeForbids e = omega arith
-some UsedUp e = omega arith
-some EmptyLink e = omega arith
-some NoMorePhases e = omega arith
-some DifferentPhases e = omega arith
-some BufferLength e = omega arith
-some NoSuchRecord e = omega arith
-some IllKept e = omega arith
-some SheetTooLong e = omega arith
 
 module _ (c : Config) (s : State vector) (w : well_formed c s ≡ true) (i j g : ℕ) (h : is_station c i ≡ true) (n : neighbours c i j ≡ true) where
   abbrev x : Station vector
@@ -87,7 +71,7 @@ module _ (c : Config) (s : State vector) (w : well_formed c s ≡ true) (i j g :
   module _ (r : Result (Unit {0}) Refusal) (e : told r ≡ send_refusal (station_at s i) c.t (limit c.limits i j) (length (link_at s i j)) i j) where
     -- a refusal is the step's, and with none the step is done
     pub send-refused : (x : Refusal) → r ≡ Err x → step c s (send i j g) ≡ refuse s (number_of x)
-    send-refused x z = let k = rw z at e in rw k (by_no sends (λ q. some x (k ∙ q)))
+    send-refused x z = let k = rw z at e in rw k (by_no sends (λ q. number-some x (k ∙ q)))
 
     pub send-accepted : (x : Unit {0}) → r ≡ Ok x → Accepted
     send-accepted x z = by_yes sends (sym (rw z at e))

@@ -12,15 +12,14 @@ use Rattle.clock.specs.declared.Verdict.{Verdict}
 use Rattle.clock.specs.declared.Verdict.TheVariants.{Before, After, Same, Unordered}
 use Rattle.record.specs.Record.{parse_record, well_made_record}
 use Rattle.verdict.specs.Compare.{verdict_on, verdict_of_bytes}
-use Rattle.verdict.specs.declared.Compared.{Compared}
-use Rattle.verdict.specs.declared.Compared.TheVariants.{Ordered, Refused}
+use Rattle.std.specs.Prelude.{Result, Ok, Err}
+use Rattle.refusals.specs.declared.Refusal.{Refusal}
+use Rattle.refusals.specs.declared.Refusal.TheVariants.{Malformed, IllFormedState, NetworkRule, NoSuchStation, ModeForbids, UsedUp, EmptyLink, NoMorePhases, DifferentPhases, BufferLength, NoSuchRecord, IllKept, SheetTooLong}
+use Rattle.clock.specs.Numbers.{order_number}
 use Rattle.entries.specs.declared.EntriesRead.{EntriesRead}
-use Rattle.entries.specs.declared.EntriesRead.TheVariants.{Block, Refused as NoBlock}
 use Rattle.entries.specs.Entries.{count_of, stored_number, well_made_entries, read_entries}
 use Rattle.entries.proofs.Laws.{well_made-count}
 use Rattle.archive.specs.Archive.{archive_test, records, count_records}
-use Rattle.archive.specs.declared.Counted.{Counted}
-use Rattle.archive.specs.declared.Counted.TheVariants.{Count, Refused as NotCounted}
 use Rattle.concurrent.specs.Unordered.{unordered_count, list_answer, unordered_answer}
 use Rattle.well_kept.specs.WellKept.{well_kept}
 use Rattle.phase_order.specs.ByNumber.{order_of}
@@ -37,11 +36,9 @@ use Rattle.reset.proofs.StepLaws.{within, of_attempt}
 use Rattle.area.specs.Layout.{config_at, state_at, test}
 use Rattle.area_calls.specs.Calls.{AreaStep, imaged, step_on, RestAnswer, yes, no, rest_on, rest_refused, ReceiptsAnswer, receipts_left, receipts_refused, receipts_on}
 use Rattle.station.specs.Image.{mode_byte, mode_of}
-use Rattle.step_parts.specs.Answers.{mode_code, stepped_of}
+use Rattle.step_parts.specs.Answers.{mode_code, stepped_of, Told as Answered, Refused as NotDone, Entered, InMode}
 use Rattle.step_parts.proofs.Read.{Passed, passed, made}
-use Rattle.step_parts.specs.declared.answer.Answer.{Answer as CodeAnswer}
-use Rattle.step_parts.specs.declared.answer.Answer.TheVariants.{Refused as NotDone, Entered, InMode}
-use Rattle.host_numbers.specs.Numbers.{Alike, entry_made, tells, modes, counts, step_number, rest_number, receipts_number, order_number, verdict_number, block_number, counted_number}
+use Rattle.host_numbers.specs.Numbers.{Alike, entry_made, tells, modes, counts, step_number, rest_number, receipts_number, verdict_number, block_number, counted_number}
 use Rattle.host_numbers.proofs.Tests.{by_test}
 
 -- the answer x is read back from its number; so one number is one answer
@@ -50,6 +47,10 @@ Back number answer x = answer (number x) ≡ x
 
 one : {A : Type 0} (number : A → ℕ) (answer : ℕ → A) (x y : A) → Back number answer x → Back number answer y → number x ≡ number y → x ≡ y
 one number answer x y p q e = sym p ∙ (ap answer e ∙ q)
+
+-- the refusal of a number
+abbrev refusal_at : ℕ → Refusal
+refusal_at k = cond (eqb k 1) Malformed (cond (eqb k 2) IllFormedState (cond (eqb k 3) NetworkRule (cond (eqb k 4) NoSuchStation (cond (eqb k 5) ModeForbids (cond (eqb k 6) UsedUp (cond (eqb k 7) EmptyLink (cond (eqb k 8) NoMorePhases (cond (eqb k 10) DifferentPhases (cond (eqb k 11) BufferLength (cond (eqb k 12) NoSuchRecord (cond (eqb k 13) IllKept SheetTooLong)))))))))))
 
 -- what is told beside 1,000
 told-low : (n : ℕ) → ltb (tells + n) tells ≡ false
@@ -86,7 +87,7 @@ pub step_low : (p : Step) (a : List ℕ) → Low (step_on p a).answer
 unfolding step_on
 step_low p a = by_test (λ (o : AreaStep). Low o.answer) (test a) (stepped (config_at a) (state_at a) p) (omega arith)
 
-abbrev step_at : ℕ → CodeAnswer
+abbrev step_at : ℕ → Answered
 step_at k = cond (ltb k entry_made) (NotDone k) (cond (ltb k tells) (Entered (k - entry_made)) (InMode (mode_code (mode_of ((k - tells) % modes))) ((k - tells) / modes)))
 
 mode_back : (m : Mode) → mode_of (mode_byte m) ≡ m
@@ -165,10 +166,10 @@ pub receipts_distinct : (a b : List ℕ) → receipts_number (receipts_on a) ≡
 receipts_distinct a b = one receipts_number receipts_at _ _ (receipts_back a) (receipts_back b)
 
 -- ---- verdicts
-abbrev verdict_at : ℕ → Compared
-verdict_at k = cond (eqb k (order_number Before)) (Ordered Before) (cond (eqb k (order_number After)) (Ordered After) (cond (eqb k (order_number Same)) (Ordered Same) (cond (eqb k (order_number Unordered)) (Ordered Unordered) (Refused k))))
+abbrev verdict_at : ℕ → Result Verdict Refusal
+verdict_at k = cond (eqb k (order_number Before)) (Ok Before) (cond (eqb k (order_number After)) (Ok After) (cond (eqb k (order_number Same)) (Ok Same) (cond (eqb k (order_number Unordered)) (Ok Unordered) (Err (refusal_at k)))))
 
-order_back : (v : Verdict) → verdict_at (order_number v) ≡ Ordered v
+order_back : (v : Verdict) → verdict_at (order_number v) ≡ Ok v
 order_back Before = refl
 order_back After = refl
 order_back Same = refl
@@ -194,14 +195,14 @@ pub orders-distinct : (a b : List ℕ) (i j k l : ℕ) → verdict_number (order
 orders-distinct a b i j k l = one verdict_number verdict_at _ _ (order_of_back a i j) (order_of_back b k l)
 
 -- ---- an entries block read, whose count is at most 15
-abbrev block_at : ℕ → EntriesRead
-block_at k = cond (ltb k tells) (NoBlock k) (Block ((k - tells) / counts) ((k - tells) % counts))
+abbrev block_at : ℕ → Result EntriesRead Refusal
+block_at k = cond (ltb k tells) (Err (refusal_at k)) (Ok (record { number = (k - tells) / counts; count = (k - tells) % counts }))
 
 block_back : (a : List ℕ) → Back block_number block_at (read_entries a)
 unfolding read_entries
 block_back a = go (well_made_entries a) refl
   where
-    go : (t : Bool) → well_made_entries a ≡ t → Back block_number block_at (cond t (Block (stored_number a) (count_of a)) (NoBlock 1))
+    go : (t : Bool) → well_made_entries a ≡ t → Back block_number block_at (cond t (Ok (record { number = stored_number a; count = count_of a })) (Err Malformed))
     go true h =
         let n : ℕ = stored_number a in
         let k : ℕ = count_of a in
@@ -215,8 +216,8 @@ pub blocks-distinct : (a b : List ℕ) → block_number (read_entries a) ≡ blo
 blocks-distinct a b = one block_number block_at _ _ (block_back a) (block_back b)
 
 -- ---- counts, which start at 1,000
-abbrev counted_at : ℕ → Counted
-counted_at k = cond (ltb k tells) (NotCounted k) (Count (k - tells))
+abbrev counted_at : ℕ → Result ℕ Refusal
+counted_at k = cond (ltb k tells) (Err (refusal_at k)) (Ok (k - tells))
 
 counted_back : (a : List ℕ) → Back counted_number counted_at (count_records a)
 unfolding count_records

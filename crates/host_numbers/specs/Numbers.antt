@@ -1,20 +1,15 @@
 -- The number that a host's call returns for each answer. A refusal is its own number; the others start at 100 or 1,000. Assumes nothing.
-use Rattle.std.specs.Prelude.{◌≡◌, ℕ, ◌+◌, ◌*◌, Bool, true, false}
+use Rattle.std.specs.Prelude.{◌≡◌, ℕ, ◌+◌, ◌*◌, Bool, true, false, Result, Ok, Err}
 use Rattle.clock.specs.declared.Verdict.{Verdict}
-use Rattle.clock.specs.declared.Verdict.TheVariants.{Before, After, Same, Unordered}
-use Rattle.verdict.specs.declared.Compared.{Compared}
-use Rattle.verdict.specs.declared.Compared.TheVariants.{Ordered, Refused}
+use Rattle.clock.specs.Numbers.{order_number}
+use Rattle.refusals.specs.declared.Refusal.{Refusal}
+use Rattle.refusals.specs.Numbers.{number_of}
 use Rattle.entries.specs.declared.EntriesRead.{EntriesRead}
-use Rattle.entries.specs.declared.EntriesRead.TheVariants.{Block, Refused as NoBlock}
-use Rattle.archive.specs.declared.Counted.{Counted}
-use Rattle.archive.specs.declared.Counted.TheVariants.{Count, Refused as NotCounted}
 use Rattle.reset.specs.Steps.{Answer, refused, entry, mode_after}
 use Rattle.area_calls.specs.Calls.{RestAnswer, yes, no, rest_refused, ReceiptsAnswer, receipts_left, receipts_refused}
 use Rattle.station.specs.Image.{mode_byte}
 use Rattle.station.specs.View.{mode_view}
-use Rattle.step_parts.specs.Answers.{stepped_of}
-use Rattle.step_parts.specs.declared.answer.Answer.{Answer as CodeAnswer}
-use Rattle.step_parts.specs.declared.answer.Answer.TheVariants.{Refused as NotDone, Entered, InMode}
+use Rattle.step_parts.specs.Answers.{stepped_of, Told, Refused, Entered, InMode}
 
 -- ---- the numbers by name
 -- bytes of a record and of a header's fields, and the greatest number that a call can return
@@ -73,33 +68,27 @@ receipts_number (receipts_left k) = tells + k
 receipts_number (receipts_refused k) = k
 
 -- a verdict: 100 before, 101 after, 102 same, 103 unordered
-abbrev pub order_number : Verdict → ℕ
-order_number Before = 100
-order_number After = 101
-order_number Same = 102
-order_number Unordered = 103
-
-abbrev pub verdict_number : Compared → ℕ
-verdict_number (Ordered v) = order_number v
-verdict_number (Refused k) = k
+abbrev pub verdict_number : Result Verdict Refusal → ℕ
+verdict_number (Ok v) = order_number v
+verdict_number (Err r) = number_of r
 
 -- an entries block read: 1,000 + 16 × number + count
-abbrev pub block_number : EntriesRead → ℕ
-block_number (Block n k) = tells + (counts * n + k)
-block_number (NoBlock k) = k
+abbrev pub block_number : Result EntriesRead Refusal → ℕ
+block_number (Ok b) = tells + (counts * b.number + b.count)
+block_number (Err r) = number_of r
 
 -- how many records an archive has, and how many an unordered list: 1,000 + the count
-abbrev pub counted_number : Counted → ℕ
-counted_number (Count n) = tells + n
-counted_number (NotCounted k) = k
+abbrev pub counted_number : Result ℕ Refusal → ℕ
+counted_number (Ok n) = tells + n
+counted_number (Err r) = number_of r
 
--- the same numbers, by the answer as the code has it
-abbrev pub code_number : CodeAnswer → ℕ
-code_number (NotDone k) = k
+-- the same numbers, by what the code tells
+abbrev pub code_number : Told → ℕ
+code_number (Refused k) = k
 code_number (Entered b) = entry_made + b
 code_number (InMode m p) = tells + (modes * p + mode_byte (mode_view m))
 
-abbrev pub is_entry : CodeAnswer → Bool
-is_entry (NotDone k) = false
+abbrev pub is_entry : Told → Bool
+is_entry (Refused k) = false
 is_entry (Entered b) = true
 is_entry (InMode m p) = false

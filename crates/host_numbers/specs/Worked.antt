@@ -1,7 +1,7 @@
 -- Some answers with the numbers that a host gets for them. Assumes nothing.
-use Rattle.std.specs.Prelude.{ℕ, ◌≡◌, refl, []}
+use Rattle.std.specs.Prelude.{ℕ, ◌≡◌, refl, [], Ok, Err}
 use Rattle.clock.specs.declared.Verdict.TheVariants.{Before, After, Same, Unordered}
-use Rattle.verdict.specs.declared.Compared.TheVariants.{Ordered, Refused}
+use Rattle.refusals.specs.declared.Refusal.TheVariants.{DifferentPhases}
 use Rattle.reset.specs.State.{normal, mute, stand_by}
 use Rattle.reset.specs.Steps.{Entry, refused, entry, mode_after}
 use Rattle.area_calls.specs.Calls.{yes, no, rest_refused}
@@ -13,8 +13,8 @@ receipt_with b = record { kind = 3; station = 1; peer = 0; phase = 0; register =
 
 pub record Worked : Type 0 where
   pub rests : (rest_number yes ≡ 100) × (rest_number no ≡ 101) × (rest_number (rest_refused 2) ≡ 2)
-  pub verdicts : (verdict_number (Ordered Before) ≡ 100) × (verdict_number (Ordered After) ≡ 101) × (verdict_number (Ordered Same) ≡ 102)
-      × (verdict_number (Ordered Unordered) ≡ 103) × (verdict_number (Refused 10) ≡ 10)
+  pub verdicts : (verdict_number (Ok Before) ≡ 100) × (verdict_number (Ok After) ≡ 101) × (verdict_number (Ok Same) ≡ 102)
+      × (verdict_number (Ok Unordered) ≡ 103) × (verdict_number (Err DifferentPhases) ≡ 10)
   -- receipts with their news
   pub entries : (step_number (entry (receipt_with 0)) ≡ 100) × (step_number (entry (receipt_with 1)) ≡ 101) × (step_number (entry (receipt_with 7)) ≡ 107)
   pub steps : (step_number (refused 7) ≡ 7) × (step_number (mode_after 1 normal 0) ≡ 1000) × (step_number (mode_after 1 mute 0) ≡ 1001)

@@ -4,48 +4,31 @@
 ghost use Rattle.std.specs.Prelude.{◌≡◌, ◌≤◌, ◌+◌, length};
 ghost use Rattle.codec.specs.Splice.{splice};
 ghost use Rattle.header.specs.Header.{table_at, parse_header};
+ghost use Rattle.refusals.specs.Numbers.{number_of as number_of_refusal, told as told_of};
+ghost use Rattle.step_parts.specs.Answers.{step_view};
 ghost use Rattle.quiescence.specs.View.{rest_view};
 ghost use Rattle.receipts.specs.View.{receipts_view};
-ghost use Rattle.host_numbers.specs.Numbers.{fields_length, greatest, block_number, rest_number, receipts_number, order_number, verdict_number, counted_number, code_number, is_entry};
+ghost use Rattle.host_numbers.specs.Numbers.{fields_length, greatest, block_number, rest_number, receipts_number, verdict_number, counted_number, code_number};
 ghost use Rattle.host_numbers.specs.Headers.{fields_fit, header_given, field_bytes};
 
-use archive::Counted;
 use clock::Verdict;
 use entries::EntriesRead;
 use header::Header;
-use quiescence::RestAnswer;
-use receipts::ReceiptsAnswer;
-use station::Mode;
-use step_parts::answer::Answer;
-use verdict::Compared;
+use refusals::Refusal;
+use step_parts::answer::Accepted;
 
-// The host's numbers (docs/HOST.md). Lengths of a lent record and of a header's fields in bytes; the refusals of the host's own
-// tests, for fields or bytes that make no header, and for a buffer that is too small or not as long as asked.
+// The host's numbers (docs/HOST.md). Lengths of a lent record and of a header's fields in bytes.
 pub const RECORD: usize = 32;
 
 pub const FIELDS: usize = 83;
 
-pub const MALFORMED: u64 = 1;
-
-pub const AREA_LENGTH: u64 = 11;
-
-// Answers that are no refusal: done, of calls that only write; an entry, with the news added; rest; a verdict; and from TOLD on an answer tells numbers,
-// a mode beside MODES times a phase, or a count beside COUNTS times a block's number.
-pub const DONE: u64 = 0;
-
+// Answers that are no refusal: an entry, with the news added; rest; and from TOLD on an answer tells numbers, a mode beside MODES times a phase, or a
+// count beside COUNTS times a block's number.
 pub const ENTRY: u64 = 100;
 
 pub const REST_YES: u64 = 100;
 
 pub const REST_NO: u64 = 101;
-
-pub const VERDICT_BEFORE: u64 = 100;
-
-pub const VERDICT_AFTER: u64 = 101;
-
-pub const VERDICT_SAME: u64 = 102;
-
-pub const VERDICT_UNORDERED: u64 = 103;
 
 pub const TOLD: u64 = 1000;
 
@@ -53,97 +36,75 @@ pub const MODES: u64 = 4;
 
 pub const COUNTS: u64 = 16;
 
-fn in_mode(mode: Mode, phase: u32) -> u64
-    ensures { result ≡ code_number (Answer.InMode mode phase) }
+pub fn refused(refusal: Refusal) -> u64
+    ensures { result ≡ number_of_refusal refusal }
 {
-    let wide = phase as u64;
-    let number = station::mode_byte(mode) as u64;
-    TOLD + (MODES * wide + number)
+    u64::from(u8::from(refusal))
 }
 
-pub fn number_of(answer: Answer) -> u64
-    ensures { result ≡ code_number answer }
+// 0 for a call that only writes, when it is done.
+pub fn done(answer: Result<(), Refusal>) -> u64
+    ensures { result ≡ told_of answer }
+{
+    u64::from(refusals::told(answer))
+}
+
+pub fn number_of(answer: Result<Accepted, Refusal>) -> u64
+    ensures { result ≡ code_number (step_view answer).answer }
 {
     match answer {
-        Answer::Refused(k) => k as u64,
-        Answer::Entered { news } => ENTRY + (news as u64),
-        Answer::InMode { mode, phase } => in_mode(mode, phase),
+        Ok(Accepted::Entry { news, .. }) => ENTRY + u64::from(news),
+        Ok(Accepted::InMode { mode, phase }) => {
+            TOLD + (MODES * u64::from(phase) + u64::from(u8::from(mode)))
+        }
+        Err(refusal) => refused(refusal),
     }
 }
 
-pub fn is_entry(answer: Answer) -> bool
-    ensures { result ≡ is_entry answer }
-{
-    match answer {
-        Answer::Refused(k) => false,
-        Answer::Entered { news } => true,
-        Answer::InMode { mode, phase } => false,
-    }
-}
-
-pub fn rest_number(answer: RestAnswer) -> u64
+pub fn rest_number(answer: Result<bool, Refusal>) -> u64
     ensures { result ≡ rest_number (rest_view answer) }
 {
     match answer {
-        RestAnswer::Yes => REST_YES,
-        RestAnswer::No => REST_NO,
-        RestAnswer::Refused(k) => k as u64,
+        Ok(true) => REST_YES,
+        Ok(false) => REST_NO,
+        Err(refusal) => refused(refusal),
     }
 }
 
-pub fn receipts_number(answer: ReceiptsAnswer) -> u64
+pub fn receipts_number(answer: Result<u32, Refusal>) -> u64
     ensures { result ≡ receipts_number (receipts_view answer) }
 {
     match answer {
-        ReceiptsAnswer::Left(n) => TOLD + (n as u64),
-        ReceiptsAnswer::Refused(k) => k as u64,
+        Ok(n) => TOLD + u64::from(n),
+        Err(refusal) => refused(refusal),
     }
 }
 
-fn order_number(v: Verdict) -> u64
-    ensures { result ≡ order_number v }
-{
-    match v {
-        Verdict::Before => VERDICT_BEFORE,
-        Verdict::After => VERDICT_AFTER,
-        Verdict::Same => VERDICT_SAME,
-        Verdict::Unordered => VERDICT_UNORDERED,
-    }
-}
-
-pub fn verdict_number(answer: Compared) -> u64
+pub fn verdict_number(answer: Result<Verdict, Refusal>) -> u64
     ensures { result ≡ verdict_number answer }
 {
     match answer {
-        Compared::Ordered(v) => order_number(v),
-        Compared::Refused(k) => k as u64,
+        Ok(verdict) => u64::from(u8::from(verdict)),
+        Err(refusal) => refused(refusal),
     }
 }
 
-fn block_told(number: u32, count: u8) -> u64
-    ensures { result ≡ block_number (EntriesRead.Block number count) }
-{
-    let n = number as u64;
-    let k = count as u64;
-    TOLD + (COUNTS * n + k)
-}
-
-pub fn block_number(answer: EntriesRead) -> u64
+pub fn block_number(answer: Result<EntriesRead, Refusal>) -> u64
     ensures { result ≡ block_number answer }
 {
     match answer {
-        EntriesRead::Block { number, count } => block_told(number, count),
-        EntriesRead::Refused(k) => k as u64,
+        Ok(read) => TOLD + (COUNTS * u64::from(read.number) + u64::from(read.count)),
+        Err(refusal) => refused(refusal),
     }
 }
 
-pub fn counted_number(answer: Counted) -> u64
+pub fn counted_number(answer: Result<usize, Refusal>) -> u64
     requires { counted_number answer ≤ greatest }
     ensures { result ≡ counted_number answer }
 {
     match answer {
-        Counted::Count(n) => TOLD + (n as u64),
-        Counted::Refused(k) => k as u64,
+        Ok(n) => TOLD + (n as u64),
+        Err(refusal) => refused(refusal),
     }
 }
 
@@ -158,12 +119,8 @@ pub fn header_of(n: u8, t: u16, allowances: &[u8]) -> Header
     requires { length allowances.now ≡ 16 }
     ensures { result ≡ header_given n t allowances.now }
 {
-    let row = codec::get_row(allowances, 0);
-    Header {
-        n,
-        t,
-        allowances: row,
-    }
+    let allowances = codec::get_row(allowances, 0);
+    Header { n, t, allowances }
 }
 
 // The fields of a header block: its bytes 1 to 3 are n and t, then come the allowances from 16 and the limits from 32.
