@@ -13,8 +13,9 @@ use Rattle.archive.specs.Archive.{block_of, blocks, archive_test, records, recor
 use Rattle.archive.proofs.Laws.{test-blocks, block_parts}
 use Rattle.archive.proofs.Tested.{record_length_lem}
 use Rattle.concurrent.specs.Unordered.{is_unordered, concurrent_count, unordered_count, list_answer, unordered_answer, UnorderedList}
-use Rattle.archive.specs.declared.Counted.{Counted}
-use Rattle.archive.specs.declared.Counted.TheVariants.{Count, Refused as NotCounted}
+use Rattle.std.specs.Prelude.{Result, Ok, Err}
+use Rattle.refusals.specs.declared.Refusal.{Refusal}
+use Rattle.refusals.specs.declared.Refusal.TheVariants.{Malformed, BufferLength, NoSuchRecord}
 use Rattle.codec.proofs.CountLaws.{count_most}
 use Rattle.host_numbers.specs.Numbers.{greatest, counted_number}
 use Rattle.melontime.specs.Archives.{HostList}
@@ -36,7 +37,7 @@ pub counted-small : (a : List ℕ) → length a ≤ greatest → counted_number 
 unfolding count_records
 counted-small a h = go (archive_test a) refl
   where
-    go : (t : Bool) → archive_test a ≡ t → counted_number (cond t (Count (records a)) (NotCounted 1)) ≤ greatest
+    go : (t : Bool) → archive_test a ≡ t → counted_number (cond t (Ok (records a)) (Err Malformed)) ≤ greatest
     go true e = omega (arith, records-most a e)
     go false e = omega arith
 
@@ -44,7 +45,7 @@ pub listed_small : (a : List ℕ) (k places : ℕ) → length a ≤ greatest →
 unfolding unordered_answer list_answer concurrent_count
 listed_small a k places h = go (archive_test a) (ltb k (records a)) (ltb places (unordered_count a k)) refl
   where
-    go : (t u v : Bool) → archive_test a ≡ t → counted_number (cond t (cond u (cond v (NotCounted 11) (Count (unordered_count a k))) (NotCounted 12)) (NotCounted 1)) ≤ greatest
+    go : (t u v : Bool) → archive_test a ≡ t → counted_number (cond t (cond u (cond v (Err BufferLength) (Ok (unordered_count a k))) (Err NoSuchRecord)) (Err Malformed)) ≤ greatest
     go true true false e = omega (arith, records-most a e, count_most (is_unordered a k) (records a))
     go true true true e = omega arith
     go true false v e = omega arith
@@ -68,5 +69,5 @@ unfolding found_record
 found_is a k e = rw (eq-eqb _ 0 e)
 
 -- ---- an unordered list
-pub listing : {a : List ℕ} {k : ℕ} {before after : List ℕ} {q : Counted} {r : ℕ} → UnorderedList a k before after q → r ≡ counted_number q → HostList a k before after r
-listing u e = record { number = e ∙ ap (λ (x : Counted). counted_number x) u.answers; leaves = u.leaves }
+pub listing : {a : List ℕ} {k : ℕ} {before after : List ℕ} {q : Result ℕ Refusal} {r : ℕ} → UnorderedList a k before after q → r ≡ counted_number q → HostList a k before after r
+listing u e = record { number = e ∙ ap (λ (x : Result ℕ Refusal). counted_number x) u.answers; leaves = u.leaves }

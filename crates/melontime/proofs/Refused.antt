@@ -14,8 +14,8 @@ use Rattle.entries.specs.Entries.{well_made_entries, count_of, entries_fit, writ
 use Rattle.archive.specs.Archive.{find_record}
 use Rattle.events.specs.Events.{event_at}
 use Rattle.concurrent.specs.Unordered.{unordered_answer, list_after}
-use Rattle.archive.specs.declared.Counted.{Counted}
-use Rattle.archive.specs.declared.Counted.TheVariants.{Count, Refused}
+use Rattle.std.specs.Prelude.{Result, Ok, Err}
+use Rattle.refusals.specs.declared.Refusal.{Refusal}
 use Rattle.reset.specs.Config.{network_rules}
 use Rattle.reset.specs.Steps.{Step, Answer, refused, entry, mode_after, step}
 use Rattle.reset.proofs.StepLaws.{refused-leaves}
@@ -66,9 +66,9 @@ both_leave p a d b = by_test (λ (o : HostStep). o.number < entry_made → (o.ar
 list_leaves : (a : List ℕ) (k : ℕ) (before after : List ℕ) (r : ℕ) → HostList a k before after r → r < tells → after ≡ before
 list_leaves a k before after r q l = go (unordered_answer a k (length before)) q.number q.leaves
   where
-    go : (x : Counted) → r ≡ counted_number x → after ≡ list_after a (event_at a k) before x → after ≡ before
-    go (Count n) e h = absurd (omega arith)
-    go (Refused n) e h = h
+    go : (x : Result ℕ Refusal) → r ≡ counted_number x → after ≡ list_after a (event_at a k) before x → after ≡ before
+    go (Ok n) e h = absurd (omega arith)
+    go (Err x) e h = h
 
 header-leaves : (h : Header) (m : List (List ℕ)) (d : List ℕ) → LeavesRefused d (write_header h m d)
 unfolding write_header

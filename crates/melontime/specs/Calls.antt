@@ -2,9 +2,8 @@
 use Rattle.std.specs.Prelude.{ℕ, ◌≡◌, List, cond, eqb, length}
 use Rattle.record.specs.Record.{image_record}
 use Rattle.reset.specs.Steps.{Step, Answer, refused, entry, mode_after}
-use Rattle.step_parts.specs.Answers.{event_record}
+use Rattle.step_parts.specs.Answers.{event_record, SteppedView}
 use Rattle.area_calls.specs.Calls.{AreaStep, step_on}
-use Rattle.step_parts.specs.declared.answer.Stepped.{Stepped}
 use Rattle.host_numbers.specs.Numbers.{record_length, area_length, step_number, is_entry}
 
 -- an accepted entry writes its record; every other answer leaves the 32 bytes
@@ -33,5 +32,5 @@ pub record Returns (p : Step) (a d : List ℕ) (r : ℕ) (b f : List ℕ) : Type
   pub event : f ≡ (host_step p a d).event
 
 -- the 32 bytes after an answer as the code has it
-abbrev pub event_after : List ℕ → Stepped → List ℕ
+abbrev pub event_after : List ℕ → SteppedView → List ℕ
 event_after d r = cond (is_entry r.answer) (image_record r.event) d

@@ -2,6 +2,8 @@
 #![tactic(auto)]
 
 ghost use Rattle.std.specs.Prelude.{◌≡◌, length};
+ghost use Rattle.refusals.specs.Numbers.{told};
+ghost use Rattle.step_parts.specs.Answers.{step_view};
 ghost use Rattle.archive.specs.Archive.{count_records};
 ghost use Rattle.reset.specs.Steps.{enter as Enter, send as Send, recv as Recv, start as Start};
 ghost use Rattle.verdict.specs.Compare.{verdict_on};
@@ -13,29 +15,28 @@ ghost use Rattle.melontime.specs.Calls.{Returns, event_after};
 ghost use Rattle.host_numbers.specs.Headers.{header_written, header_fields};
 ghost use Rattle.melontime.specs.Archives.{record_found, HostList};
 
-use host_numbers::{AREA_LENGTH, DONE, FIELDS, MALFORMED, RECORD};
-use step_parts::answer::Stepped;
+use host_numbers::{FIELDS, RECORD, done, refused};
+use refusals::Refusal;
+use step_parts::answer::Accepted;
 
 // The number of a step's answer; an accepted entry's record is written.
-fn tell(r: Stepped, event: &mut [u8]) -> u64
+fn tell(answer: Result<Accepted, Refusal>, event: &mut [u8]) -> u64
     requires { length event.old ≡ record_length }
-    ensures { (result ≡ code_number r.answer) × (event.new ≡ event_after event.old r) }
+    ensures { (result ≡ code_number (step_view answer).answer) × (event.new ≡ event_after event.old (step_view answer)) }
 {
-    let answer = r.answer;
-    let e = r.event;
-    let number = host_numbers::number_of(answer);
-    if host_numbers::is_entry(answer) {
-        record::store(event, e);
-        return number;
+    match answer {
+        Ok(Accepted::Entry { event: record, .. }) => record::store(event, record),
+        Ok(Accepted::InMode { .. }) => {}
+        Err(_) => {}
     }
-    number
+    host_numbers::number_of(answer)
 }
 
 #[unsafe(no_mangle)]
 pub extern "C" fn melontime_setup(block: &[u8], area: &mut [u8]) -> u64
     ensures { (result ≡ (setup_on block.now area.old).answer) × (area.new ≡ (setup_on block.now area.old).buffer) }
 {
-    setup::setup(block, area) as u64
+    done(setup::setup(block, area))
 }
 
 #[unsafe(no_mangle)]
@@ -48,7 +49,7 @@ pub extern "C" fn melontime_enter(
     ensures { Returns (Enter station register) area.old event.old result area.new event.new }
 {
     if event.len() != RECORD {
-        return AREA_LENGTH;
+        return refused(Refusal::BufferLength);
     }
     tell(network::enter(area, station, register), event)
 }
@@ -64,7 +65,7 @@ pub extern "C" fn melontime_send(
     ensures { Returns (Send station peer register) area.old event.old result area.new event.new }
 {
     if event.len() != RECORD {
-        return AREA_LENGTH;
+        return refused(Refusal::BufferLength);
     }
     tell(network::send(area, station, peer, register), event)
 }
@@ -74,7 +75,7 @@ pub extern "C" fn melontime_recv(area: &mut [u8], event: &mut [u8], station: u32
     ensures { Returns (Recv station peer) area.old event.old result area.new event.new }
 {
     if event.len() != RECORD {
-        return AREA_LENGTH;
+        return refused(Refusal::BufferLength);
     }
     tell(network::recv(area, station, peer), event)
 }
@@ -84,7 +85,7 @@ pub extern "C" fn melontime_start(area: &mut [u8], event: &mut [u8], station: u3
     ensures { Returns (Start station) area.old event.old result area.new event.new }
 {
     if event.len() != RECORD {
-        return AREA_LENGTH;
+        return refused(Refusal::BufferLength);
     }
     tell(network::start(area, station), event)
 }
@@ -114,7 +115,7 @@ pub extern "C" fn melontime_verdict(first: &[u8], second: &[u8]) -> u64
 pub extern "C" fn melontime_write_entries(number: u32, records: &[u8], area: &mut [u8]) -> u64
     ensures { (result ≡ (write_entries number records.now area.old).answer) × (area.new ≡ (write_entries number records.now area.old).buffer) }
 {
-    entries::write(number, records, area) as u64
+    done(entries::write(number, records, area))
 }
 
 #[unsafe(no_mangle)]
@@ -128,7 +129,23 @@ pub extern "C" fn melontime_read_entries(block: &[u8]) -> u64
 pub extern "C" fn melontime_read_record(block: &[u8], k: u32, area: &mut [u8]) -> u64
     ensures { (result ≡ (read_record block.now k area.old).answer) × (area.new ≡ (read_record block.now k area.old).buffer) }
 {
-    entries::read_record(block, k as usize, area) as u64
+    done(entries::read_record(block, k as usize, area))
+}
+
+fn write_header(
+    n: u32,
+    t: u32,
+    allowances: &[u8],
+    limits: &[u8],
+    area: &mut [u8],
+) -> Result<(), Refusal>
+    ensures { (told result ≡ (header_written n t allowances.now limits.now area.old).answer) × (area.new ≡ (header_written n t allowances.now limits.now area.old).buffer) }
+{
+    if !host_numbers::fields_fit(n, t, allowances, limits) {
+        return Err(Refusal::Malformed);
+    }
+    let h = host_numbers::header_of(n as u8, t as u16, allowances);
+    header::write(h, header::table_at(limits, 0), area)
 }
 
 #[unsafe(no_mangle)]
@@ -141,25 +158,27 @@ pub extern "C" fn melontime_write_header(
 ) -> u64
     ensures { (result ≡ (header_written n t allowances.now limits.now area.old).answer) × (area.new ≡ (header_written n t allowances.now limits.now area.old).buffer) }
 {
-    if !host_numbers::fields_fit(n, t, allowances, limits) {
-        return MALFORMED;
+    done(write_header(n, t, allowances, limits, area))
+}
+
+fn read_header(block: &[u8], fields: &mut [u8]) -> Result<(), Refusal>
+    ensures { (told result ≡ (header_fields block.now fields.old).answer) × (fields.new ≡ (header_fields block.now fields.old).buffer) }
+{
+    if !header::well_made(block) {
+        return Err(Refusal::Malformed);
     }
-    let h = host_numbers::header_of(n as u8, t as u16, allowances);
-    header::write(h, header::table_at(limits, 0), area) as u64
+    if fields.len() < FIELDS {
+        return Err(Refusal::BufferLength);
+    }
+    host_numbers::put_fields(fields, block);
+    Ok(())
 }
 
 #[unsafe(no_mangle)]
 pub extern "C" fn melontime_read_header(block: &[u8], fields: &mut [u8]) -> u64
     ensures { (result ≡ (header_fields block.now fields.old).answer) × (fields.new ≡ (header_fields block.now fields.old).buffer) }
 {
-    if !header::well_made(block) {
-        return MALFORMED;
-    }
-    if fields.len() < FIELDS {
-        return AREA_LENGTH;
-    }
-    host_numbers::put_fields(fields, block);
-    DONE
+    done(read_header(block, fields))
 }
 
 #[unsafe(no_mangle)]
@@ -169,20 +188,22 @@ pub extern "C" fn melontime_archive_records(archive: &[u8]) -> u64
     host_numbers::counted_number(archive::count(archive))
 }
 
+fn copy_record(archive: &[u8], k: usize, area: &mut [u8]) -> Result<(), Refusal>
+    ensures { (told result ≡ (record_found archive.now k area.old).answer) × (area.new ≡ (record_found archive.now k area.old).buffer) }
+{
+    archive::find(archive, k)?;
+    if area.len() < RECORD {
+        return Err(Refusal::BufferLength);
+    }
+    codec::put_bytes(area, 0, archive::record_at(archive, k));
+    Ok(())
+}
+
 #[unsafe(no_mangle)]
 pub extern "C" fn melontime_found_record(archive: &[u8], number: u64, area: &mut [u8]) -> u64
     ensures { (result ≡ (record_found archive.now number area.old).answer) × (area.new ≡ (record_found archive.now number area.old).buffer) }
 {
-    let k = number as usize;
-    let refusal = archive::find(archive, k);
-    if refusal != 0 {
-        return refusal as u64;
-    }
-    if area.len() < RECORD {
-        return AREA_LENGTH;
-    }
-    codec::put_bytes(area, 0, archive::record_at(archive, k));
-    DONE
+    done(copy_record(archive, number as usize, area))
 }
 
 #[unsafe(no_mangle)]

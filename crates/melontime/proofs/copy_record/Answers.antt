@@ -1,6 +1,8 @@
 use mathlib.Core.Path.{refl, sym, ◌∙◌}
+use Rattle.std.proofs.lemmas.Result.{err_from_is_err_and}
 use native.Mathlib.Omega.{arith}
-use borrow.Author.Tests.{eq-eqb, ne_eqb, lt-ltb, le-ltb}
+use Rattle.step_parts.proofs.Refusals.{number-some}
+use borrow.Author.Tests.{ne_eqb, lt-ltb, le-ltb}
 use Rattle.host_numbers.specs.Numbers.{record_length}
 use Rattle.melontime.specs.Archives.{record_found}
 use Rattle.melontime.proofs.Archives.{found-length, found_is}
@@ -11,7 +13,7 @@ unfolding record_found
 returns-in_err-find c =
     let p = err_from_is_err_and c.from_residual.result c.from_residual.ensures.1 in
     let e = rw c.in_err-find.was at c.find.ensures in
-    rw (p.1, p.2, ← e) ?
+    rw (p.1, p.2, ← e, ne_eqb _ 0 (number-some c.in_err-find.field-0.0)) (refl, refl)
 
 pub put_bytes-requires : goal.put_bytes-requires
 put_bytes-requires c =

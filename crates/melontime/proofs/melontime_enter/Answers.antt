@@ -2,7 +2,7 @@ use Rattle.melontime.proofs.Laws.{unfit, answered}
 use Rattle.melontime.proofs.melontime_enter.Goals as goal
 
 pub returns-then-event-ne-RECORD : goal.returns-then-event-ne-RECORD
-returns-then-event-ne-RECORD c = unfit c.if-event-ne-RECORD.true
+returns-then-event-ne-RECORD c = rw c.refused.ensures (unfit c.if-event-ne-RECORD.true)
 
 pub returns : goal.returns
 returns c = answered c.if-event-ne-RECORD.false c.enter.ensures c.tell.ensures
