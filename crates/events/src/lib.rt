@@ -58,7 +58,7 @@ pub struct Place {
 }
 
 // The place of record 0.
-fn first_place() -> Place
+pub fn first_place() -> Place
     ensures { result.number ≡ 0 }
 {
     Place {
@@ -69,7 +69,7 @@ fn first_place() -> Place
 }
 
 // The place of the next record.
-fn next_place(p: Place) -> Place
+pub fn next_place(p: Place) -> Place
     requires { p.number < 18446744073709551615 }
     ensures { result.number ≡ p.number + 1 }
 {

@@ -11,7 +11,7 @@ use turnover_session::Session;
 
 // The bytes of one read: as many as the buffer has room for the answers of, then those answers written, and so on.
 fn feed<W: Write>(
-    session: &mut Session,
+    session: &mut Session<65536>,
     output: &mut W,
     clock: &impl Clock,
     bytes: &[u8],
@@ -31,7 +31,7 @@ fn feed<W: Write>(
 
 // One read, and what it brings. Answers whether to go on: behind a refused setup no more is read, since nothing more is printed.
 fn turn<R: Read, W: Write>(
-    session: &mut Session,
+    session: &mut Session<65536>,
     input: &mut R,
     output: &mut W,
     clock: &impl Clock,

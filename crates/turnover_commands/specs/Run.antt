@@ -142,7 +142,7 @@ code_text number i n e (InMode m p) = mode_text number p i (mode_byte (mode_view
 
 -- ---- what the calls promise
 -- where the code's run stands
-abbrev pub standing_of : State → Standing
+abbrev pub standing_of : {n : ℕ} → State n → Standing
 standing_of s = standing s.run s.block s.area
 
 -- the call told t: the run then stands there, and the text was printed from `at` on, up to `end`

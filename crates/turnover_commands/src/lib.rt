@@ -121,9 +121,9 @@ fn set_up(run: &mut Run, block: &mut [u8], area: &mut [u8]) -> Result<(), Refusa
     done
 }
 
-impl State {
+impl State<65536> {
     // A run before its first line.
-    pub fn new() -> State
+    pub fn new() -> State<65536>
         ensures { standing_of result ≡ standing opened_run (blank 512) (blank 65536) }
     {
         State {
@@ -132,7 +132,9 @@ impl State {
             area: turnover_settings::area(),
         }
     }
+}
 
+impl<const AREA: usize> State<AREA> {
     // No later line is read.
     pub fn ended(&self) -> bool
         ensures { result ≡ is_ended self.now.run.stage }

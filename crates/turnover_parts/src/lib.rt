@@ -13,8 +13,8 @@ use turnover_session::Session;
 
 // Takes bytes line by line, until they are used up or the buffer may not have room for another answer. Answers the bytes that are left, and the
 // place behind what was printed.
-pub fn take_lines<'a>(
-    session: &mut Session,
+pub fn take_lines<'a, const AREA: usize>(
+    session: &mut Session<AREA>,
     bytes: &'a [u8],
     out: &mut [u8],
     at: usize,
@@ -35,7 +35,7 @@ pub fn take_lines<'a>(
 }
 
 // The input has ended: the last line, where it has no line feed, and setup where no step came.
-pub fn finish(session: &mut Session, out: &mut [u8], at: usize) -> usize
+pub fn finish<const AREA: usize>(session: &mut Session<AREA>, out: &mut [u8], at: usize) -> usize
     requires { at + (longest + longest) ≤ length out.old }
     ensures by_index { (t : List ℕ) → Holds session.old.line t → TextAt out.old at (turnover_from (standing_of session.old.state) t []) result out.new }
     ensures upper_bound { result ≤ at + (longest + longest) }

@@ -63,11 +63,11 @@ line_taken s y c e t d rest more h f q = rw (e, f, q) (whole_line s t d more h)
 
 -- ---- parts of an input, one after the other
 -- nothing was taken
-pub goes_none : (s : Session) (input : List ℕ) → Goes s input [] s input
+pub goes_none : {n : ℕ} (s : Session n) (input : List ℕ) → Goes s input [] s input
 goes_none s input = record { whole = λ t k. (t, k, λ more. refl) }
 
 -- more of an input was taken
-pub goes_more : {s y z : Session} {a b c p q : List ℕ} → Goes s a p y b → Goes y b q z c → Goes s a (p ++ q) z c
+pub goes_more : {n : ℕ} {s y z : Session n} {a b c p q : List ℕ} → Goes s a p y b → Goes y b q z c → Goes s a (p ++ q) z c
 goes_more {p = p} {q} f g =
     record {
       whole = λ t k.
@@ -77,23 +77,23 @@ goes_more {p = p} {q} f g =
     }
 
 -- more of an input has come
-pub goes_on : {s y : Session} {a p : List ℕ} → Goes s a p y [] → (b : List ℕ) → Goes s (a ++ b) p y b
+pub goes_on : {n : ℕ} {s y : Session n} {a p : List ℕ} → Goes s a p y [] → (b : List ℕ) → Goes s (a ++ b) p y b
 goes_on f b = record { whole = λ t k. let x = f.whole t k in (x.0, x.1, λ more. rw append_assoc (x.2 (b ++ more))) }
 
 -- two inputs, each taken whole, one after the other
-pub passes_more : {s y z : Session} {a b : List ℕ} → Passes s a y → Passes y b z → Passes s (a ++ b) z
+pub passes_more : {n : ℕ} {s y z : Session n} {a b : List ℕ} → Passes s a y → Passes y b z → Passes s (a ++ b) z
 passes_more {b = b} f g = (f.0 ++ g.0, goes_more (goes_on f.1 b) g.1)
 
 -- all bytes were taken
-pub goes-whole : {s y : Session} {input p : List ℕ} (rest : List ℕ) → Goes s input p y rest → length rest ≡ 0 → Passes s input y
+pub goes-whole : {n : ℕ} {s y : Session n} {input p : List ℕ} (rest : List ℕ) → Goes s input p y rest → length rest ≡ 0 → Passes s input y
 goes-whole {p = p} [] g h = (p, g)
 goes-whole (x ∷ rest) g h = absurd (omega arith)
 
 -- no bytes were taken, and more
-pub takes_none : (s : Session) (bytes out : List ℕ) (at : ℕ) → at ≤ length out → Takes s bytes out at bytes at s out
+pub takes_none : {n : ℕ} (s : Session n) (bytes out : List ℕ) (at : ℕ) → at ≤ length out → Takes s bytes out at bytes at s out
 takes_none s bytes out at h = record { text = []; printed = text_none h; inside = omega arith; goes = goes_none s bytes }
 
-pub takes_more : {s y z : Session} {bytes rest left old mid out : List ℕ} {at end last : ℕ} → Takes s bytes old at rest end y mid → Takes y rest mid end left last z out
+pub takes_more : {n : ℕ} {s y z : Session n} {bytes rest left old mid out : List ℕ} {at end last : ℕ} → Takes s bytes old at rest end y mid → Takes y rest mid end left last z out
     → Takes s bytes old at left last z out
 takes_more f g =
     record {
@@ -117,7 +117,7 @@ text_taken : (old text out : List ℕ) (end : ℕ) → TextAt old 0 text end out
 text_taken old text out end w = let n : length text ≡ end = omega (arith, w.next) in rw w.is (take_at text _ end n)
 
 -- a run that began with nothing set, took the input whole and printed what was left
-pub all_printed : {s y : Session} {input old out : List ℕ} {end : ℕ} → Begins s → Passes s input y
+pub all_printed : {n : ℕ} {s y : Session n} {input old out : List ℕ} {end : ℕ} → Begins s → Passes s input y
     → ((t : List ℕ) → Holds y.line t → TextAt old 0 (turnover_from (standing_of y.state) t []) end out) → Prints out end
 all_printed {s} {y} {input} {old} {out} {end} b p w =
     let x = p.1.whole [] b.line in

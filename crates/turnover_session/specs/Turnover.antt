@@ -30,16 +30,16 @@ turnover_from s line input = transcript s (all_of (split_from line input))
 
 -- an input was taken up to `rest`: whatever line it goes on with and whatever follows it, `text` and what is then to be printed is what was to
 -- be printed before
-pub record Goes (s : Session) (input text : List ℕ) (y : Session) (rest : List ℕ) : Type 0 where
+pub record Goes {n : ℕ} (s : Session n) (input text : List ℕ) (y : Session n) (rest : List ℕ) : Type 0 where
   pub whole : (t : List ℕ) → Holds s.line t
       → (u : List ℕ) × Holds y.line u × ((more : List ℕ) → turnover_from (standing_of s.state) t (input ++ more) ≡ text ++ turnover_from (standing_of y.state) u (rest ++ more))
 
 -- an input was taken whole, with whatever text
-abbrev pub Passes : Session → List ℕ → Session → Type 0
+abbrev pub Passes : {n : ℕ} → Session n → List ℕ → Session n → Type 0
 Passes s input y = (text : List ℕ) × Goes s input text y []
 
 -- nothing has come, and nothing is set
-pub record Begins (s : Session) : Type 0 where
+pub record Begins {n : ℕ} (s : Session n) : Type 0 where
   pub line : Holds s.line []
   pub stands : standing_of s.state ≡ beginning
 
@@ -50,7 +50,7 @@ pub record Prints (out : List ℕ) (end : ℕ) : Type 0 where
   pub all : turnover input ≡ before ++ take end out
 
 -- bytes were taken up to `rest`, and the text of their answers stands in the buffer
-pub record Takes (s : Session) (bytes old : List ℕ) (at : ℕ) (rest : List ℕ) (end : ℕ) (y : Session) (out : List ℕ) : Type 0 where
+pub record Takes {n : ℕ} (s : Session n) (bytes old : List ℕ) (at : ℕ) (rest : List ℕ) (end : ℕ) (y : Session n) (out : List ℕ) : Type 0 where
   pub text : List ℕ
   pub printed : TextAt old at text end out
   pub inside : length rest ≤ length bytes

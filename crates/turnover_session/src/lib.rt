@@ -10,14 +10,14 @@ use turnover_input::line::Line;
 
 // The line that the input goes on with, and the run.
 #[derive(Drop)]
-pub struct Session {
+pub struct Session<const AREA: usize> {
     pub line: Line,
-    pub state: State,
+    pub state: State<AREA>,
 }
 
-impl Session {
+impl Session<65536> {
     // Before the first byte.
-    pub fn new() -> Session
+    pub fn new() -> Session<65536>
         ensures { Begins result }
     {
         Session {
@@ -25,7 +25,9 @@ impl Session {
             state: State::new(),
         }
     }
+}
 
+impl<const AREA: usize> Session<AREA> {
     // Takes the bytes up to the first line feed, or all where there is none, and obeys the line that ends there. Answers the bytes that are left, and
     // the place behind what was printed.
     pub fn take<'a>(&mut self, bytes: &'a [u8], out: &mut [u8], at: usize) -> (&'a [u8], usize)

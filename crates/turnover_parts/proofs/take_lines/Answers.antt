@@ -5,7 +5,7 @@ use Rattle.turnover_session.proofs.Laws.{takes_more}
 use Rattle.turnover_parts.proofs.take_lines.Goals as goal
 
 pub loop-session-preserved : goal.loop-session-preserved
-loop-session-preserved c =
+loop-session-preserved g c =
     let i = c.loop-session.invariant in
     let f = c.take.ensures in
     let n = f.one_line.on (grind (arith, common_steps)) in

@@ -5,7 +5,7 @@ use Rattle.turnover_session.specs.Turnover.{Takes}
 use Rattle.turnover_parts.proofs.take_lines.Given as goal
 
 abbrev pub invariant-loop-session : goal.invariant-loop-session
-invariant-loop-session l = (length l.out ≡ length l.initial.out) × (length l.rest ≡ length l.bytes → l.end ≡ l.at) × Takes l.initial.session l.bytes l.initial.out l.at l.rest l.end l.session l.out
+invariant-loop-session g l = (length l.out ≡ length l.initial.out) × (length l.rest ≡ length l.bytes → l.end ≡ l.at) × Takes l.initial.session l.bytes l.initial.out l.at l.rest l.end l.session l.out
 
 abbrev pub decreases-loop-session : goal.decreases-loop-session
-decreases-loop-session l = length l.rest
+decreases-loop-session g l = length l.rest

@@ -8,7 +8,7 @@ use Rattle.turnover_session.proofs.Laws.{part_line, line_taken}
 use Rattle.turnover_session.proofs.Session.take.Goals as goal
 
 pub returns-in_default-clause-takes : goal.returns-in_default-clause-takes
-returns-in_default-clause-takes c =
+returns-in_default-clause-takes g c =
     let f = c.fill.ensures in
     let d = c.args.bytes.now in
     let w = rw c.in_default.is at f.whole in
@@ -21,7 +21,7 @@ returns-in_default-clause-takes c =
     }
 
 pub returns-clause-takes : goal.returns-clause-takes
-returns-clause-takes c =
+returns-clause-takes g c =
     let f = c.fill.ensures in
     let d = c.args.bytes.now in
     let w = rw c.in-Some.is at f.whole in
