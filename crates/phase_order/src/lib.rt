@@ -192,7 +192,8 @@ fn spread_on(
 }
 
 // Whether x reaches a station that y of a later phase knows. A station once reached stays, so that the first one that y knows decides. In an archive
-// of a run a station joins in the first phase of each look; where none does, the looks grow wider.
+// of a run a station joins in the first phase of each look; where none does, the looks grow wider. (No range: phases in which none joins are passed over; and the
+// table is a slice, as less than all of it is looked at.)
 fn reaches(archive: Archive, x: Event, y: Event, table: &mut [u32]) -> bool
     requires { (x.record.phase < y.record.phase) × (8 ≤ length table.old) }
     ensures { result ≡ precedes_in archive.entry.bytes.now x.record y.record }

@@ -132,7 +132,8 @@ fn fitting(span: u64, count: usize) -> u64
     (span * HALF_WANTED / (count as u64 / 2 + 1)).clamp(1, NO_KEY)
 }
 
-// Every key above `lo`, window by window, where those up to it are as they must be and `last` is the greatest of them.
+// Every key above `lo`, window by window, where those up to it are as they must be and `last` is the greatest of them. (No
+// range: each window is as wide as the one before it asks.)
 fn windows_kept(archive: Archive, list: &mut [u64]) -> bool
     requires { 1 ≤ length list.old }
     ensures { result ≡ well_kept archive.entry.bytes.now }
