@@ -1,13 +1,13 @@
 -- An input that comes in parts: a line more, and the end. Assumes nothing.
-use Prim.Native.Nat.{ℕ, ◌≤◌}
-use mathlib.Core.Path.{◌≡◌, refl, sym, ◌∙◌, ap, subst}
+use Prim.Native.Nat.{ℕ, suc, ◌+◌, ◌-◌, ◌≤◌}
+use mathlib.Core.Path.{◌≡◌, refl, sym, ◌∙◌, ap}
 use mathlib.Core.Bool.{Bool, true, false, true≢false}
 use mathlib.Core.List.{List, [], ◌∷◌, ◌++◌, append_assoc, append-nil}
 use Rattle.std.proofs.Common.{Option}
 use lib.Dec.{eqb}
 use native.Mathlib.Omega.{arith}
-use lib.ListN.{length, take}
-use lib.Seq.{take_at}
+use lib.ListN.{length, take, drop, length-drop}
+use lib.Seq.{take_at, drop-drop}
 use Rattle.turnover_output.specs.TextAt.{TextAt}
 use Rattle.turnover_input.specs.Kept.{Holds}
 use Rattle.turnover_output.proofs.TextAtLaws.{text_none, text_more}
@@ -89,9 +89,28 @@ pub goes-whole : {n : ℕ} {s y : Session n} {input p : List ℕ} (rest : List �
 goes-whole {p = p} [] g h = (p, g)
 goes-whole (x ∷ rest) g h = absurd (omega arith)
 
+-- a part of a part
+part_more : {a b c : List ℕ} → (k : ℕ) × (k ≤ length a) × (b ≡ drop k a) → (k : ℕ) × (k ≤ length b) × (c ≡ drop k b) → (k : ℕ) × (k ≤ length a) × (c ≡ drop k a)
+part_more {a} {b} {c} (k, h, e) (m, i, f) =
+    let n : length b ≡ length a - k = rw e (length-drop k a) in
+    (k + m, omega (arith, n), f ∙ rw e (drop-drop m k a))
+
+pub length_part : {a b : List ℕ} → (k : ℕ) × (k ≤ length a) × (b ≡ drop k a) → length b ≤ length a
+length_part {a} {b} (k, h, e) = rw e (omega (arith, length-drop k a))
+
+-- what stands behind a line feed is the last of the bytes
+pub behind_part : (d : List ℕ) → (k : ℕ) × (k ≤ length d) × (behind d ≡ drop k d)
+unfolding behind
+behind_part [] = (0, omega arith, refl)
+behind_part (x ∷ d) = go (eqb x 10) refl (behind_part d)
+  where
+    go : (t : Bool) → eqb x 10 ≡ t → (k : ℕ) × (k ≤ length d) × (behind d ≡ drop k d) → (k : ℕ) × (k ≤ suc (length d)) × (behind (x ∷ d) ≡ drop k (x ∷ d))
+    go true e p = (1, omega arith, rw e)
+    go false e (k, h, q) = (suc k, omega arith, rw e q)
+
 -- no bytes were taken, and more
 pub takes_none : {n : ℕ} (s : Session n) (bytes out : List ℕ) (at : ℕ) → at ≤ length out → Takes s bytes out at bytes at s out
-takes_none s bytes out at h = record { text = []; printed = text_none h; inside = omega arith; goes = goes_none s bytes }
+takes_none s bytes out at h = record { text = []; printed = text_none h; part = (0, omega arith, refl); goes = goes_none s bytes }
 
 pub takes_more : {n : ℕ} {s y z : Session n} {bytes rest left old mid out : List ℕ} {at end last : ℕ} → Takes s bytes old at rest end y mid → Takes y rest mid end left last z out
     → Takes s bytes old at left last z out
@@ -99,7 +118,7 @@ takes_more f g =
     record {
       text = f.text ++ g.text;
       printed = text_more f.printed g.printed;
-      inside = let a = f.inside in let b = g.inside in omega arith;
+      part = part_more f.part g.part;
       goes = goes_more f.goes g.goes;
     }
 

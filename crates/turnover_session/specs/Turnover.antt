@@ -1,5 +1,5 @@
 -- What turnover prints for an input, whole (document 01, "turnover"). Assumes nothing.
-use Rattle.std.specs.Prelude.{ℕ, ◌+◌, ◌≤◌, ◌<◌, ◌≡◌, List, [], ◌∷◌, ◌++◌, length, take}
+use Rattle.std.specs.Prelude.{ℕ, ◌+◌, ◌≤◌, ◌<◌, ◌≡◌, List, [], ◌∷◌, ◌++◌, length, take, drop}
 use Rattle.codec.specs.Every.{blank}
 use Rattle.turnover_output.specs.TextAt.{TextAt}
 use Rattle.turnover_output.specs.Answer.{longest}
@@ -49,11 +49,11 @@ pub record Prints (out : List ℕ) (end : ℕ) : Type 0 where
   pub before : List ℕ
   pub all : turnover input ≡ before ++ take end out
 
--- bytes were taken up to `rest`, and the text of their answers stands in the buffer
+-- bytes were taken up to `rest`, the last of them, and the text of their answers stands in the buffer
 pub record Takes {n : ℕ} (s : Session n) (bytes old : List ℕ) (at : ℕ) (rest : List ℕ) (end : ℕ) (y : Session n) (out : List ℕ) : Type 0 where
   pub text : List ℕ
   pub printed : TextAt old at text end out
-  pub inside : length rest ≤ length bytes
+  pub part : (k : ℕ) × (k ≤ length bytes) × (rest ≡ drop k bytes)
   pub goes : Goes s bytes text y rest
 
 -- one line, or a part of one: at most one answer
