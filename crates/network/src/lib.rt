@@ -1,4 +1,5 @@
-// The network in a lent area: the four steps, each on an area of any length and content.
+// The network in a lent area: the four steps, each on an area of any length and content. Each tests the area itself: a call that is given the step as a
+// closure would be no plainer. What passed the test is lent on as bytes, since a step changes them.
 #![tactic(auto)]
 
 ghost use Rattle.reset.specs.Steps.{enter as Enter, send as Send, recv as Recv, start as Start};

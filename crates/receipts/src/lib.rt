@@ -30,7 +30,8 @@ fn greatest_target(area: &[u8], n: u8) -> u32
     let mut g: u32 = 0;
     for i in 0..usize::from(n) {
         let x = area_edit::parts::load_station(area, i);
-        g = g.max(target(x));
+        let aim = target(x);
+        g = g.max(aim);
     }
     g
 }

@@ -10,8 +10,8 @@ use Rattle.receipts.proofs.greatest_target.Goals as goal
 pub load_station-x-requires : goal.load_station-x-requires
 load_station-x-requires c = (long _ c.requires.0, omega arith)
 
-pub target-requires : goal.target-requires
-target-requires c =
+pub target-aim-requires : goal.target-aim-requires
+target-aim-requires c =
     phase-most c.args.area.now c.requires.0 c.loop-i.i (omega arith) c.load_station-x.result c.load_station-x.ensures
 
 pub loop-i-preserved : goal.loop-i-preserved
@@ -19,7 +19,7 @@ loop-i-preserved c =
     let a = c.args.area.now in
     let i = c.loop-i.i in
     let m : greatest (i + 1) (target_at (state_at a)) ≡ max (greatest i (target_at (state_at a))) (target_at (state_at a) i) = greatest_more i (target_at (state_at a)) in
-    let t : target_at (state_at a) i ≡ c.target.result = target_is a c.requires.0 i (omega arith) c.load_station-x.result c.load_station-x.ensures ∙ sym c.target.ensures.0 in
+    let t : target_at (state_at a) i ≡ c.target-aim.result = target_is a c.requires.0 i (omega arith) c.load_station-x.result c.load_station-x.ensures ∙ sym c.target-aim.ensures.0 in
     (omega arith, omega arith, omega arith)
 
 pub returns : goal.returns
