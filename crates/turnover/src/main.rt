@@ -21,7 +21,7 @@ fn feed<W: Write>(
     ensures { OnOk result (Passes session.old bytes.now session.new) }
 {
     let mut rest = bytes;
-    while !rest.is_empty() {
+    'bytes: while !rest.is_empty() {
         let (left, end) = turnover_parts::take_lines(session, rest, out, 0);
         turnover_io::put(output, clock, &out[..end])?;
         rest = left;

@@ -25,7 +25,7 @@ pub fn take_lines<'a, const AREA: usize>(
 {
     let mut rest = bytes;
     let mut end = at;
-    while !rest.is_empty() {
+    'lines: while !rest.is_empty() {
         if out.len() - end < LONGEST {
             break;
         }

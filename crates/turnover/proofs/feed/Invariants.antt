@@ -5,8 +5,8 @@ use lib.ListN.{length}
 use Rattle.turnover_session.specs.Turnover.{Goes}
 use Rattle.turnover.proofs.feed.Given as goal
 
-abbrev pub invariant-loop-rest : goal.invariant-loop-rest
-invariant-loop-rest g l = (length l.out ≡ 65536) × ((text : List ℕ) × Goes l.initial.session l.bytes text l.session l.rest)
+abbrev pub invariant-bytes : goal.invariant-bytes
+invariant-bytes g l = (length l.out ≡ 65536) × ((text : List ℕ) × Goes l.initial.session l.bytes text l.session l.rest)
 
-abbrev pub decreases-loop-rest : goal.decreases-loop-rest
-decreases-loop-rest g l = length l.rest
+abbrev pub decreases-bytes : goal.decreases-bytes
+decreases-bytes g l = length l.rest
