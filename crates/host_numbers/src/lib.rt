@@ -108,7 +108,7 @@ pub fn counted_number(answer: Result<usize, Refusal>) -> u64
     }
 }
 
-// The fields of a header fit their bytes.
+// The fields of a header fit their bytes. The test of all four comes first, as its definition has it, so that no `TryFrom` has to tell the same twice.
 pub fn fields_fit(n: u32, t: u32, allowances: &[u8], limits: &[u8]) -> bool
     ensures { result ≡ fields_fit n t allowances.now limits.now }
 {

@@ -1,4 +1,5 @@
-// The calls for a host, on numbers and slices.
+// The calls for a host, on numbers and slices: the interface that C calls, so that each lends bytes of any length and answers a number, and tests the
+// length of the record area before the step.
 #![tactic(auto)]
 
 ghost use Rattle.std.specs.Prelude.{◌≡◌, length};

@@ -22,7 +22,8 @@ fn target(x: Station) -> u32
     x.phase + u32::from(x.mode == Mode::Mute)
 }
 
-// The greatest target of the stations below n.
+// The greatest target of the stations below n. (That the area was tested stands in four contracts here: it is made by one call and read by four, and a
+// type for it would be named as often.)
 fn greatest_target(area: &[u8], n: u8) -> u32
     requires { (test area.now ≡ true) × (n ≤ 8) }
     ensures { (result ≡ greatest_target (sized n 0) (state_at area.now)) × (result ≤ 1000000) }
