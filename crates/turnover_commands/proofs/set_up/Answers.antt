@@ -1,4 +1,4 @@
-use mathlib.Core.Path.{refl, sym, ◌∙◌}
+use mathlib.Core.Path.{sym, ◌∙◌}
 use native.Mathlib.Omega.{arith}
 use Rattle.turnover_settings.specs.Settings.{settings_block}
 use Rattle.turnover_settings.proofs.Laws.{number-not_zero}

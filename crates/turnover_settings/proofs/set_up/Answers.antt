@@ -1,7 +1,6 @@
-use mathlib.Core.Path.{refl, sym, ◌∙◌, ap}
-use borrow.Author.Tests.{eq-eqb, ne_eqb}
+use mathlib.Core.Path.{refl}
+use borrow.Author.Tests.{ne_eqb}
 use Rattle.std.proofs.lemmas.Result.{err_from_is_err_and}
-use Rattle.refusals.specs.Numbers.{told, number_of}
 use Rattle.turnover_settings.specs.Settings.{settings_block, set_up}
 use Rattle.turnover_settings.proofs.Laws.{number-not_zero}
 use Rattle.turnover_settings.proofs.set_up.Goals as goal
