@@ -156,22 +156,27 @@ fn spoilt(rt: &impl Print, archive: [u8; 2048], len: usize, p: usize, byte: u8) 
     println!(rt; "")
 }
 
-fn main(rt: HostRuntime) -> io::Result<()> {
+fn run_all(rt: &impl Print) -> io::Result<()> {
     for n in [0, 1, 2, 14, 15, 16, 30, 31] {
-        run(&rt, n)?;
+        run(rt, n)?;
     }
-    let a = make(&rt, 16)?;
+    let a = make(rt, 16)?;
     print!(rt; "\nall of 16")?;
-    all(&rt, &a[0..1536], 16)?;
+    all(rt, &a[0..1536], 16)?;
     println!(rt; "")?;
     for len in [0, 511, 513, 1023, 1025, 1535, 1537, 2048] {
-        spoilt(&rt, a, len, 0, 1)?;
+        spoilt(rt, a, len, 0, 1)?;
     }
-    spoilt(&rt, a, 1536, 0, 2)?;
-    spoilt(&rt, a, 1536, 700, 9)?;
-    spoilt(&rt, a, 1536, 1025, 0)?;
-    spoilt(&rt, a, 1536, 1025, 255)?;
-    spoilt(&rt, a, 1536, 1048, 0)?;
-    spoilt(&rt, a, 1536, 1533, 1)?;
-    spoilt(&rt, a, 1536, 1534, 0)
+    spoilt(rt, a, 1536, 0, 2)?;
+    spoilt(rt, a, 1536, 700, 9)?;
+    spoilt(rt, a, 1536, 1025, 0)?;
+    spoilt(rt, a, 1536, 1025, 255)?;
+    spoilt(rt, a, 1536, 1048, 0)?;
+    spoilt(rt, a, 1536, 1533, 1)?;
+    spoilt(rt, a, 1536, 1534, 0)
+}
+
+// A write that fails ends the run, and there is nobody to tell.
+fn main(rt: HostRuntime) {
+    let _ = run_all(&rt);
 }

@@ -24,7 +24,7 @@ fn counted(d: &[u8], s: Line) -> usize {
 }
 
 fn case(rt: &impl Print, d: &[u8], s: Line) -> Result<()> {
-    print!(rt; "{}", s.label())?;
+    s.write_label(rt)?;
     match s.number(0) {
         9 => check_vectors::table(rt, d, s),
         21 => records::trip(rt, s),
@@ -36,18 +36,23 @@ fn case(rt: &impl Print, d: &[u8], s: Line) -> Result<()> {
     }
 }
 
-fn main(rt: HostRuntime) -> Result<()> {
+fn run_all(rt: &impl Print) -> Result<()> {
     let mut room = [0u8; 65536];
     let mut d = [7u8; 512];
-    for s in check_vectors::text(&mut room)?.lines() {
-        let s = Line(s);
+    for s in check_vectors::input(&mut room).split_inclusive(check_vectors::ends_line) {
+        let s = Line::of(s);
         match s.number(0) {
             10 => d = records::made(s),
             11 => d = blocks::made(s),
             12 => d = blocks::spoilt(s),
             13 => d = blocks::other_kind(),
-            _ => case(&rt, &d, s)?,
+            _ => case(rt, &d, s)?,
         }
     }
     Ok(())
+}
+
+// A write that fails ends the run, and there is nobody to tell.
+fn main(rt: HostRuntime) {
+    let _ = run_all(&rt);
 }

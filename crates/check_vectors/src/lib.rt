@@ -9,7 +9,7 @@ ghost use Rattle.std.specs.Prelude.{◌≡◌, ◌<◌, get_or};
 
 pub use archives::{archive, block, place};
 use clock::Verdict;
-pub use line::{Line, text};
+pub use line::{Line, ends_line, input};
 use refusals::Refusal;
 use std::fmt;
 pub use sweeps::{Kind, record_answer, resealed, sweep, table};

@@ -2,26 +2,42 @@
 ghost use Rattle.std.specs.Prelude.{◌≤◌};
 
 use std::array;
-use std::io::{ErrorKind, Result};
+use std::io::{Result, Write, writer};
 
 // The standard input, read whole into the room for it: line by line it would take a heap.
-pub fn text(room: &mut [u8]) -> Result<&str> {
+pub fn input(room: &mut [u8]) -> &[u8] {
     let n = io::read_full(0, room);
-    match str::from_utf8(&room[..n]) {
-        Ok(text) => Ok(text),
-        Err(_) => Err(ErrorKind::InvalidData.into()),
+    &room[..n]
+}
+
+// A line ends in a line feed, the last one perhaps not.
+pub fn ends_line(b: &u8) -> bool {
+    *b == b'\n'
+}
+
+// The number that one more digit makes, or the greatest.
+fn longer(x: u64, digit: u8) -> u64 {
+    if x < u64::MAX / 10 {
+        x * 10 + u64::from(digit % 16)
+    } else {
+        u64::MAX
     }
 }
 
+// A line of any bytes, without its line feed.
 #[derive(Clone, Copy)]
-pub struct Line<'a>(pub &'a str);
+pub struct Line<'a>(&'a [u8]);
 
 impl<'a> Line<'a> {
-    // What is written of the case.
-    pub fn label(self) -> &'a str {
-        match self.0.split_once('|') {
-            Some((_, label)) => label,
-            None => "",
+    pub fn of(bytes: &'a [u8]) -> Line<'a> {
+        Line(bytes.strip_suffix(b"\n").unwrap_or(bytes))
+    }
+
+    // Writes what is written of the case.
+    pub fn write_label(self, rt: &impl Print) -> Result<()> {
+        match self.0.iter().position(|b| *b == b'|') {
+            Some(bar) => writer(rt).write_all(&self.0[bar + 1..]),
+            None => Ok(()),
         }
     }
 
@@ -29,9 +45,12 @@ impl<'a> Line<'a> {
     pub fn number(self, k: usize) -> u64 {
         let mut numbers = self
             .0
-            .split(|c: char| !c.is_ascii_digit())
-            .filter(|x| !x.is_empty());
-        numbers.nth(k).map_or(0, |x| x.parse().unwrap_or(u64::MAX))
+            .split(|b| !b.is_ascii_digit())
+            .filter(|digits| !digits.is_empty());
+        match numbers.nth(k) {
+            Some(digits) => digits.iter().fold(0, |x, digit| longer(x, *digit)),
+            None => 0,
+        }
     }
 
     pub fn byte(self, k: usize) -> u8 {
