@@ -103,7 +103,7 @@ fn order(rt: &impl Print, a: &[u8], first: usize, second: usize) -> io::Result<(
     print!(rt; " {}", Told(found_verdict(a, first, second)))
 }
 
-// How a record stands to every other, and to one past the last.
+// How a record stands to every one up to a number, also past the last.
 fn orders(rt: &impl Print, a: &[u8], s: Line) -> io::Result<()> {
     for second in 0..=s.up_to(3, 9000) {
         order(rt, a, s.size(4), second)?;

@@ -111,7 +111,7 @@ fn mode(number: u64, phase: u32, station: u8, mode: Mode) {
     present(&out, end);
 }
 
-// The refusal of a number; 0, 9 and those past the last have none.
+// The refusal of a number that a step or setup is refused with; other numbers are printed as they are.
 fn refusal_of(k: u8) -> Option<Refusal> {
     match k {
         1 => Some(Refusal::Malformed),

@@ -3,7 +3,7 @@
 #![tactic(auto)]
 
 ghost use Rattle.std.specs.Prelude.{◌≡◌, List, ℕ, ◌≤◌, length, IfOk, OnOk};
-ghost use Rattle.turnover_session.specs.Turnover.{Passes, Prints};
+ghost use Rattle.turnover_session.specs.Turnover.{SessionPasses, Prints};
 
 use std::io::{ErrorKind, Read, Result, Write};
 use std::rt::Clock;
@@ -18,7 +18,7 @@ fn feed<W: Write>(
     out: &mut [u8],
 ) -> Result<()>
     requires { length out.old ≡ 65536 }
-    ensures { OnOk result (Passes session.old bytes.now session.new) }
+    ensures { OnOk result (SessionPasses session.old bytes.now session.new) }
 {
     let mut rest = bytes;
     'bytes: while !rest.is_empty() {
@@ -39,7 +39,7 @@ fn turn<R: Read, W: Write>(
     out: &mut [u8],
 ) -> Result<bool>
     requires { length out.old ≡ 65536 }
-    ensures { OnOk result ((input : List ℕ) × Passes session.old input session.new) }
+    ensures { OnOk result ((input : List ℕ) × SessionPasses session.old input session.new) }
 {
     let n = turnover_io::get(input, clock, bytes)?;
     feed(session, output, clock, &bytes[..n], out)?;

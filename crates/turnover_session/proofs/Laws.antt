@@ -1,6 +1,6 @@
 -- An input that comes in parts: a line more, and the end. Assumes nothing.
 use Prim.Native.Nat.{ℕ, suc, ◌+◌, ◌-◌, ◌≤◌}
-use mathlib.Core.Path.{◌≡◌, refl, sym, ◌∙◌, ap}
+use mathlib.Core.Path.{◌≡◌, refl, sym, ◌∙◌, ap, subst}
 use mathlib.Core.Bool.{Bool, true, false, true≢false}
 use mathlib.Core.List.{List, [], ◌∷◌, ◌++◌, append_assoc, append-nil}
 use Rattle.std.proofs.Common.{Option}
@@ -9,7 +9,7 @@ use native.Mathlib.Omega.{arith}
 use lib.ListN.{length, take, drop, length-drop}
 use lib.Seq.{take_at, drop-drop}
 use Rattle.turnover_output.specs.TextAt.{TextAt}
-use Rattle.turnover_input.specs.Kept.{Holds}
+use Rattle.turnover_input.specs.Kept.{HoldsLine, Holds}
 use Rattle.turnover_output.proofs.TextAtLaws.{text_none, text_more}
 use Rattle.turnover_input.specs.Parse.{parse_of}
 use Rattle.turnover_input.specs.declared.command.Command.{Command}
@@ -18,7 +18,7 @@ use Rattle.turnover_input.proofs.LineLaws.{split_append, split_first}
 use Rattle.turnover_settings.specs.declared.Stage.TheVariants.{Ended}
 use Rattle.turnover_commands.specs.Run.{Standing, standing_of, obeyed, obeyed_in, closed, closed_in}
 use Rattle.turnover_session.specs.declared.Session.{Session}
-use Rattle.turnover_session.specs.Turnover.{transcript, beginning, turnover, turnover_from, Goes, Passes, Begins, Prints, Takes}
+use Rattle.turnover_session.specs.Turnover.{transcript, beginning, turnover, turnover_from, Goes, Passes, SessionPasses, Begins, Prints, Takes}
 
 -- the whole input, before any of it has come
 pub whole-input : (input : List ℕ) → turnover_from beginning [] input ≡ turnover input
@@ -63,11 +63,12 @@ line_taken s y c e t d rest more h f q = rw (e, f, q) (whole_line s t d more h)
 
 -- ---- parts of an input, one after the other
 -- nothing was taken
-pub goes_none : {n : ℕ} (s : Session n) (input : List ℕ) → Goes s input [] s input
-goes_none s input = record { whole = λ t k. (t, k, λ more. refl) }
+pub goes_none : (s : Standing) (line : List ℕ) (have : ℕ) (input : List ℕ) → Goes s line have input [] s line have input
+goes_none s line have input = record { whole = λ t k. (t, k, λ more. refl) }
 
 -- more of an input was taken
-pub goes_more : {n : ℕ} {s y z : Session n} {a b c p q : List ℕ} → Goes s a p y b → Goes y b q z c → Goes s a (p ++ q) z c
+pub goes_more : {s y z : Standing} {l m n a b c p q : List ℕ} {have after last : ℕ} → Goes s l have a p y m after b → Goes y m after b q z n last c
+    → Goes s l have a (p ++ q) z n last c
 goes_more {p = p} {q} f g =
     record {
       whole = λ t k.
@@ -77,15 +78,15 @@ goes_more {p = p} {q} f g =
     }
 
 -- more of an input has come
-pub goes_on : {n : ℕ} {s y : Session n} {a p : List ℕ} → Goes s a p y [] → (b : List ℕ) → Goes s (a ++ b) p y b
+pub goes_on : {s y : Standing} {l m a p : List ℕ} {have after : ℕ} → Goes s l have a p y m after [] → (b : List ℕ) → Goes s l have (a ++ b) p y m after b
 goes_on f b = record { whole = λ t k. let x = f.whole t k in (x.0, x.1, λ more. rw append_assoc (x.2 (b ++ more))) }
 
 -- two inputs, each taken whole, one after the other
-pub passes_more : {n : ℕ} {s y z : Session n} {a b : List ℕ} → Passes s a y → Passes y b z → Passes s (a ++ b) z
+pub passes_more : {s y z : Standing} {l m n a b : List ℕ} {have after last : ℕ} → Passes s l have a y m after → Passes y m after b z n last → Passes s l have (a ++ b) z n last
 passes_more {b = b} f g = (f.0 ++ g.0, goes_more (goes_on f.1 b) g.1)
 
 -- all bytes were taken
-pub goes-whole : {n : ℕ} {s y : Session n} {input p : List ℕ} (rest : List ℕ) → Goes s input p y rest → length rest ≡ 0 → Passes s input y
+pub goes-whole : {s y : Standing} {l m input p : List ℕ} {have after : ℕ} (rest : List ℕ) → Goes s l have input p y m after rest → length rest ≡ 0 → Passes s l have input y m after
 goes-whole {p = p} [] g h = (p, g)
 goes-whole (x ∷ rest) g h = absurd (omega arith)
 
@@ -110,7 +111,7 @@ behind_part (x ∷ d) = go (eqb x 10) refl (behind_part d)
 
 -- no bytes were taken, and more
 pub takes_none : {n : ℕ} (s : Session n) (bytes out : List ℕ) (at : ℕ) → at ≤ length out → Takes s bytes out at bytes at s out
-takes_none s bytes out at h = record { text = []; printed = text_none h; part = (0, omega arith, refl); goes = goes_none s bytes }
+takes_none s bytes out at h = record { text = []; printed = text_none h; part = (0, omega arith, refl); goes = goes_none (standing_of s.state) s.line.bytes s.line.have bytes }
 
 pub takes_more : {n : ℕ} {s y z : Session n} {bytes rest left old mid out : List ℕ} {at end last : ℕ} → Takes s bytes old at rest end y mid → Takes y rest mid end left last z out
     → Takes s bytes old at left last z out
@@ -136,15 +137,21 @@ text_taken : (old text out : List ℕ) (end : ℕ) → TextAt old 0 text end out
 text_taken old text out end w = let n : length text ≡ end = omega (arith, w.next) in rw w.is (take_at text _ end n)
 
 -- a run that began with nothing set, took the input whole and printed what was left
-pub all_printed : {n : ℕ} {s y : Session n} {input old out : List ℕ} {end : ℕ} → Begins s → Passes s input y
-    → ((t : List ℕ) → Holds y.line t → TextAt old 0 (turnover_from (standing_of y.state) t []) end out) → Prints out end
-all_printed {s} {y} {input} {old} {out} {end} b p w =
-    let x = p.1.whole [] b.line in
+pub all_printed : {y : Standing} {l m input old out : List ℕ} {have end : ℕ} → Passes beginning l 0 input y m have → ((t : List ℕ) → HoldsLine m have t → TextAt old 0 (turnover_from y t []) end out) → Prints out end
+all_printed {y} {l} {m} {input} {old} {out} {have} {end} p w =
+    let x = p.1.whole [] (record { count = refl; bytes = refl }) in
     record {
       input = input;
       before = p.0;
-      all = sym (whole-input input) ∙ (rw (append-nil, b.stands) at (x.2 [])) ∙ ap (λ (z : List ℕ). p.0 ++ z) (sym (text_taken old _ out end (w x.0 x.1)));
+      all = sym (whole-input input) ∙ (rw append-nil at (x.2 [])) ∙ ap (λ (z : List ℕ). p.0 ++ z) (sym (text_taken old _ out end (w x.0 x.1)));
     }
+
+-- the same of a session
+pub session_printed : {n : ℕ} {s : Session n} {y : Standing} {m input old out : List ℕ} {have end : ℕ} → Begins s → Passes (standing_of s.state) s.line.bytes s.line.have input y m have
+    → ((t : List ℕ) → HoldsLine m have t → TextAt old 0 (turnover_from y t []) end out) → Prints out end
+session_printed {n} {s} {y} {m} {input} {old} {out} {have} b p w =
+    all_printed (subst (λ (z : Standing). Passes z s.line.bytes 0 input y m have) b.stands
+    (subst (λ (k : ℕ). Passes (standing_of s.state) s.line.bytes k input y m have) b.line.count p)) w
 
 -- ---- behind a refused setup nothing is printed
 silence : (s : Standing) → s.run.stage ≡ Ended → (ls : List (List ℕ)) → transcript s ls ≡ []

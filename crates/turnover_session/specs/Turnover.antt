@@ -5,7 +5,7 @@ use Rattle.turnover_output.specs.TextAt.{TextAt}
 use Rattle.turnover_output.specs.Answer.{longest}
 use Rattle.turnover_input.specs.Parse.{parse_of}
 use Rattle.turnover_input.specs.Lines.{split_from, all_of, lines_of}
-use Rattle.turnover_input.specs.Kept.{Holds}
+use Rattle.turnover_input.specs.Kept.{HoldsLine, Holds}
 use Rattle.turnover_settings.specs.Settings.{opened_run}
 use Rattle.turnover_commands.specs.Run.{Standing, standing, standing_of, obeyed, closed}
 use Rattle.turnover_session.specs.declared.Session.{Session}
@@ -30,13 +30,19 @@ turnover_from s line input = transcript s (all_of (split_from line input))
 
 -- an input was taken up to `rest`: whatever line it goes on with and whatever follows it, `text` and what is then to be printed is what was to
 -- be printed before
-pub record Goes {n : ℕ} (s : Session n) (input text : List ℕ) (y : Session n) (rest : List ℕ) : Type 0 where
-  pub whole : (t : List ℕ) → Holds s.line t
-      → (u : List ℕ) × Holds y.line u × ((more : List ℕ) → turnover_from (standing_of s.state) t (input ++ more) ≡ text ++ turnover_from (standing_of y.state) u (rest ++ more))
+pub record Goes (s : Standing) (line : List ℕ) (have : ℕ) (input text : List ℕ) (y : Standing) (new : List ℕ) (after : ℕ) (rest : List ℕ) : Type 0 where
+  pub whole : (t : List ℕ) → HoldsLine line have t → (u : List ℕ) × HoldsLine new after u × ((more : List ℕ) → turnover_from s t (input ++ more) ≡ text ++ turnover_from y u (rest ++ more))
 
 -- an input was taken whole, with whatever text
-abbrev pub Passes : {n : ℕ} → Session n → List ℕ → Session n → Type 0
-Passes s input y = (text : List ℕ) × Goes s input text y []
+abbrev pub Passes : Standing → List ℕ → ℕ → List ℕ → Standing → List ℕ → ℕ → Type 0
+Passes s line have input y new after = (text : List ℕ) × Goes s line have input text y new after []
+
+-- the same two of the code's session
+abbrev pub SessionGoes : {n : ℕ} → Session n → List ℕ → List ℕ → Session n → List ℕ → Type 0
+SessionGoes s input text y rest = Goes (standing_of s.state) s.line.bytes s.line.have input text (standing_of y.state) y.line.bytes y.line.have rest
+
+abbrev pub SessionPasses : {n : ℕ} → Session n → List ℕ → Session n → Type 0
+SessionPasses s input y = (text : List ℕ) × SessionGoes s input text y []
 
 -- nothing has come, and nothing is set
 pub record Begins {n : ℕ} (s : Session n) : Type 0 where
@@ -54,7 +60,7 @@ pub record Takes {n : ℕ} (s : Session n) (bytes old : List ℕ) (at : ℕ) (re
   pub text : List ℕ
   pub printed : TextAt old at text end out
   pub part : (k : ℕ) × (k ≤ length bytes) × (rest ≡ drop k bytes)
-  pub goes : Goes s bytes text y rest
+  pub goes : SessionGoes s bytes text y rest
 
 -- one line, or a part of one: at most one answer
 pub record OneLine (bytes rest : List ℕ) (at end : ℕ) : Type 0 where

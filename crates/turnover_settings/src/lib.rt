@@ -9,7 +9,7 @@ ghost use Rattle.turnover_settings.specs.Settings.{opened_run, named_run, staged
 use header::Header;
 use refusals::Refusal;
 
-// Where a run stands: before `net`, before setup, after setup, and behind a refused setup.
+// Where a run stands: before `net`, before setup, after setup, and where nothing more is read.
 #[derive(Clone, Copy, Debug, PartialEq, Eq)]
 pub enum Stage {
     Opening,
@@ -19,7 +19,7 @@ pub enum Stage {
 }
 
 // The state of a run: its stage, the settings so far but for the limits, and the number of the last step. The limits stand beside it, where
-// a header block has them, in 512 lent bytes.
+// a header block has them, in 512 bytes.
 #[derive(Clone, Copy)]
 pub struct Run {
     pub stage: Stage,
