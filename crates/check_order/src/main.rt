@@ -72,7 +72,7 @@ fn case(rt: &impl Print, a: &mut [u8; 3072], rs: &mut [u8; 2400], s: Line) -> Re
     let to = s.up_to(1, 3072);
     match s.number(0) {
         1 => row(rt, &a[..to], s)?,
-        2 => pairs(rt, &a[..to], s)?,
+        0 | 2..=9 => pairs(rt, &a[..to], s)?,
         10 => check_vectors::place(rs, s.up_to(1, 74), event(s)),
         11 => make(a, rs, s),
         12 => check_vectors::lift(a, s.size(1), s.byte(2)),

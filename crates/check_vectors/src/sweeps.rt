@@ -145,7 +145,7 @@ pub fn sweep(good: &[u8], s: Line) -> usize {
         5 => refused(kind, good, s.size(2), s.up_to(3, 512), s.byte(4)),
         6 => moves(kind, good, s.byte(2)),
         7 => all_moves(kind, good),
-        8 => all_stored(kind, good),
-        _ => usize::from(told(answer(kind, good))),
+        0 | 4 => usize::from(told(answer(kind, good))),
+        _ => all_stored(kind, good),
     }
 }
