@@ -1,14 +1,10 @@
 // Prints what each line of the input says, and then lines of turnover's output with values at their ends.
 #![tactic(auto)]
 
-ghost use Rattle.std.specs.Prelude.{◌+◌, ◌≤◌, length};
-
-use refusals::Refusal;
-use station::Mode;
 use std::io::Read;
 use turnover_input::command::Command;
 use turnover_input::line::Line;
-use turnover_output::{answer, text};
+use turnover_output::answer;
 
 // The standard output.
 const STDOUT: i32 = 1;
@@ -105,63 +101,21 @@ fn receipt(number: u64, phase: u32, station: u8, counts: [u16; 8], n: u8, news: 
     present(&out, end);
 }
 
-fn mode(number: u64, phase: u32, station: u8, mode: Mode) {
+fn mode(number: u64, phase: u32, station: u8, mode: u8) {
     let mut out = [b'.'; 99];
     let end = answer::mode(&mut out, 5, number, phase, station, mode);
     present(&out, end);
 }
 
-// The refusal of a number that a step or setup is refused with; other numbers are printed as they are.
-fn refusal_of(k: u8) -> Option<Refusal> {
-    match k {
-        1 => Some(Refusal::Malformed),
-        2 => Some(Refusal::IllFormedState),
-        3 => Some(Refusal::NetworkRule),
-        4 => Some(Refusal::NoSuchStation),
-        5 => Some(Refusal::ModeForbids),
-        6 => Some(Refusal::UsedUp),
-        7 => Some(Refusal::EmptyLink),
-        8 => Some(Refusal::NoMorePhases),
-        10 => Some(Refusal::DifferentPhases),
-        11 => Some(Refusal::BufferLength),
-        12 => Some(Refusal::NoSuchRecord),
-        13 => Some(Refusal::IllKept),
-        _ => None,
-    }
-}
-
-// The line of a number that no refusal has, piece by piece.
-fn unnamed(out: &mut [u8], at: usize, k: u8) -> usize
-    requires { at + 7 ≤ length out.old }
-{
-    let a = text::word(out, at, b"no ");
-    let b = text::number(out, a, u64::from(k));
-    text::word(out, b, b"\n")
-}
-
-fn unnamed_step(out: &mut [u8], number: u64, k: u8) -> usize
-    requires { 33 ≤ length out.old }
-{
-    let a = text::number(out, 5, number);
-    let b = text::word(out, a, b" ");
-    unnamed(out, b, k)
-}
-
-fn refused(number: u64, k: u8) {
+fn refused(number: u64, refusal: u8) {
     let mut out = [b'.'; 99];
-    let end = match refusal_of(k) {
-        Some(refusal) => answer::refused(&mut out, 5, number, refusal),
-        None => unnamed_step(&mut out, number, k),
-    };
+    let end = answer::refused(&mut out, 5, number, refusal);
     present(&out, end);
 }
 
-fn others(k: u8) {
+fn others(refusal: u8) {
     let mut out = [b'.'; 99];
-    let end = match refusal_of(k) {
-        Some(refusal) => answer::setup_refused(&mut out, 5, refusal),
-        None => unnamed(&mut out, 5, k),
-    };
+    let end = answer::setup_refused(&mut out, 5, refusal);
     present(&out, end);
     let last = answer::bad(&mut out, 5);
     present(&out, last);
@@ -194,15 +148,10 @@ fn receipts() {
 
 fn modes() {
     for m in 0u8..5 {
-        let word = match m {
-            0 => Mode::Normal,
-            1 => Mode::Mute,
-            _ => Mode::StandBy,
-        };
-        mode(100 + u64::from(m), 999999, m, word);
+        mode(100 + u64::from(m), 999999, m, m);
     }
-    mode(u64::MAX, u32::MAX, 255, Mode::StandBy);
-    mode(3, 0, 1, Mode::Mute);
+    mode(u64::MAX, u32::MAX, 255, 255);
+    mode(3, 0, 1, 1);
 }
 
 fn refusals() {

@@ -37,7 +37,7 @@ fn print(
     ensures upper_bound { result ≤ at + longest }
 {
     match answered {
-        Err(refusal) => answer::refused(out, at, number, refusal),
+        Err(refusal) => answer::refused(out, at, number, u8::from(refusal)),
         Ok(Accepted::Entry { event, news }) => {
             let phase = event.phase;
             let counts = event.counts;
@@ -47,7 +47,7 @@ fn print(
             answer::entry(out, at, number, phase, station, counts, n)
         }
         Ok(Accepted::InMode { mode, phase }) => {
-            answer::mode(out, at, number, phase, station, mode)
+            answer::mode(out, at, number, phase, station, u8::from(mode))
         }
     }
 }
@@ -161,7 +161,7 @@ impl<const AREA: usize> State<AREA> {
     {
         match set_up(&mut self.run, &mut self.block, &mut self.area) {
             Ok(()) => stepping(&mut self.run, &mut self.area, out, at, command),
-            Err(refusal) => answer::setup_refused(out, at, refusal),
+            Err(refusal) => answer::setup_refused(out, at, u8::from(refusal)),
         }
     }
 
@@ -213,7 +213,7 @@ impl<const AREA: usize> State<AREA> {
         }
         match set_up(&mut self.run, &mut self.block, &mut self.area) {
             Ok(()) => at,
-            Err(refusal) => answer::setup_refused(out, at, refusal),
+            Err(refusal) => answer::setup_refused(out, at, u8::from(refusal)),
         }
     }
 }

@@ -3,14 +3,9 @@
 ghost use Rattle.std.specs.Prelude.{◌≡◌, ◌+◌, ◌<◌, ◌≤◌, length};
 ghost use Rattle.decimal.specs.Decimal.{spaced};
 ghost use Rattle.turnover_output.specs.TextAt.{TextAt};
-ghost use Rattle.refusals.specs.Numbers.{number_of};
-ghost use Rattle.station.specs.Image.{mode_byte};
-ghost use Rattle.station.specs.View.{mode_view};
 ghost use Rattle.turnover_output.specs.Answer.{opening as Opening, entered as entered_text, mode_word as word_of, entry_text, receipt_text, mode_text, refused_text, setup_text, bad_text, longest_numbers, longest_counts, longest_mode, longest};
 
 use crate::text;
-use refusals::Refusal;
-use station::Mode;
 
 // No line is longer.
 pub const LONGEST: usize = 94;
@@ -99,21 +94,21 @@ pub fn receipt(
     text::word(out, c, b"\n")
 }
 
-fn mode_word(mode: Mode) -> &'static [u8]
-    ensures is { result.now ≡ word_of (mode_byte (mode_view mode)) }
+fn mode_word(mode: u8) -> &'static [u8]
+    ensures is { result.now ≡ word_of mode }
     ensures upper_bound { length result.now ≤ longest_mode }
 {
     match mode {
-        Mode::Normal => b"normal",
-        Mode::Mute => b"mute",
-        Mode::StandBy => b"stand-by",
+        0 => b"normal",
+        1 => b"mute",
+        _ => b"stand-by",
     }
 }
 
 // An accepted step that is no entry.
-pub fn mode(out: &mut [u8], at: usize, number: u64, phase: u32, station: u8, mode: Mode) -> usize
+pub fn mode(out: &mut [u8], at: usize, number: u64, phase: u32, station: u8, mode: u8) -> usize
     requires { at + longest ≤ length out.old }
-    ensures text_at { TextAt out.old at (mode_text number phase station (mode_byte (mode_view mode))) result out.new }
+    ensures text_at { TextAt out.old at (mode_text number phase station mode) result out.new }
     ensures upper_bound { result ≤ at + longest }
 {
     let a = opening(out, at, number, b" mode ", phase, station);
@@ -123,25 +118,25 @@ pub fn mode(out: &mut [u8], at: usize, number: u64, phase: u32, station: u8, mod
 }
 
 // A refused step.
-pub fn refused(out: &mut [u8], at: usize, number: u64, refusal: Refusal) -> usize
+pub fn refused(out: &mut [u8], at: usize, number: u64, refusal: u8) -> usize
     requires { at + longest ≤ length out.old }
-    ensures text_at { TextAt out.old at (refused_text number (number_of refusal)) result out.new }
+    ensures text_at { TextAt out.old at (refused_text number refusal) result out.new }
     ensures upper_bound { result ≤ at + longest }
 {
     let a = text::number(out, at, number);
     let b = text::word(out, a, b" no ");
-    let c = text::number(out, b, u64::from(u8::from(refusal)));
+    let c = text::number(out, b, u64::from(refusal));
     text::word(out, c, b"\n")
 }
 
 // A refused setup.
-pub fn setup_refused(out: &mut [u8], at: usize, refusal: Refusal) -> usize
+pub fn setup_refused(out: &mut [u8], at: usize, refusal: u8) -> usize
     requires { at + longest ≤ length out.old }
-    ensures text_at { TextAt out.old at (setup_text (number_of refusal)) result out.new }
+    ensures text_at { TextAt out.old at (setup_text refusal) result out.new }
     ensures upper_bound { result ≤ at + longest }
 {
     let a = text::word(out, at, b"no ");
-    let b = text::number(out, a, u64::from(u8::from(refusal)));
+    let b = text::number(out, a, u64::from(refusal));
     text::word(out, b, b"\n")
 }
 

@@ -1,14 +1,20 @@
+use native.Mathlib.Omega.{arith}
+use borrow.Author.Tests.{ne_eqb}
+use Rattle.std.proofs.Common.{◌≢◌}
 use Rattle.turnover_output.specs.Answer.{mode_word}
 use Rattle.turnover_output.proofs.answer.mode_word.Goals as goal
 
-pub returns-in-Normal-clause-is : goal.returns-in-Normal-clause-is
+pub returns-in-0-clause-is : goal.returns-in-0-clause-is
 unfolding mode_word
-returns-in-Normal-clause-is c = rw c.in-Normal.is
+returns-in-0-clause-is c = rw c.in-0.is
 
-pub returns-in-Mute-clause-is : goal.returns-in-Mute-clause-is
+pub returns-in-1-clause-is : goal.returns-in-1-clause-is
 unfolding mode_word
-returns-in-Mute-clause-is c = rw c.in-Mute.is
+returns-in-1-clause-is c = rw c.in-1.is
 
-pub returns-in-StandBy-clause-is : goal.returns-in-StandBy-clause-is
+pub returns-in_default-clause-is : goal.returns-in_default-clause-is
 unfolding mode_word
-returns-in-StandBy-clause-is c = rw c.in-StandBy.is
+returns-in_default-clause-is c =
+    let p : c.args.mode ≢ 0 = λ e. omega arith in
+    let q : c.args.mode ≢ 1 = λ e. omega arith in
+    rw (ne_eqb c.args.mode 0 p, ne_eqb c.args.mode 1 q)

@@ -1,7 +1,6 @@
-use mathlib.Core.Path.{◌∙◌}
 use native.Mathlib.Omega.{arith}
 use Rattle.turnover_output.proofs.TextAtLaws.{text_more}
-use Rattle.turnover_output.proofs.AnswerLaws.{length64, refusal-length}
+use Rattle.turnover_output.proofs.AnswerLaws.{length64, length8}
 use Rattle.turnover_output.specs.Answer.{refused_text}
 use Rattle.turnover_output.proofs.answer.refused.Goals as goal
 
@@ -12,10 +11,10 @@ pub word-b-requires : goal.word-b-requires
 word-b-requires c = omega (arith, length64 _ c.ranges.number)
 
 pub number-c-requires : goal.number-c-requires
-number-c-requires c = omega (arith, length64 _ c.ranges.number, refusal-length c.args.refusal _ (c.from-2.ensures ∙ c.from.ensures))
+number-c-requires c = omega (arith, length64 _ c.ranges.number, length8 _ _ c.from.ensures (omega arith))
 
 pub word-requires : goal.word-requires
-word-requires c = omega (arith, length64 _ c.ranges.number, refusal-length c.args.refusal _ (c.from-2.ensures ∙ c.from.ensures))
+word-requires c = omega (arith, length64 _ c.ranges.number, length8 _ _ c.from.ensures (omega arith))
 
 pub returns : goal.returns
 unfolding refused_text
@@ -24,8 +23,8 @@ returns c =
     let y = c.word-b.ensures in
     let z = c.number-c.ensures in
     let l = c.word.ensures in
-    let e = c.from-2.ensures ∙ c.from.ensures in
+    let e = c.from.ensures in
     record {
-      text_at = rw (← e) (text_more (text_more (text_more x y) z) l);
-      upper_bound = omega (arith, length64 _ c.ranges.number, refusal-length c.args.refusal _ e, x.next, y.next, z.next, l.next);
+      text_at = rw e at (text_more (text_more (text_more x y) z) l);
+      upper_bound = omega (arith, length64 _ c.ranges.number, length8 _ _ e (omega arith), x.next, y.next, z.next, l.next);
     }
