@@ -1,7 +1,7 @@
 // A run of turnover over an input that comes in parts: as many lines as a lent buffer has room for the answers of, and the end of the input.
 #![tactic(auto)]
 
-ghost use Rattle.std.specs.Prelude.{List, [], ℕ, ◌+◌, ◌≤◌, length};
+ghost use Rattle.std.specs.Prelude.{◌≡◌, List, [], ℕ, ◌+◌, ◌≤◌, length};
 ghost use Rattle.turnover_output.specs.Answer.{longest};
 ghost use Rattle.turnover_output.specs.TextAt.{TextAt};
 ghost use Rattle.turnover_input.specs.Kept.{Holds};
@@ -39,6 +39,7 @@ pub fn finish<const AREA: usize>(session: &mut Session<AREA>, out: &mut [u8], at
     requires { at + (longest + longest) ≤ length out.old }
     ensures by_index { (t : List ℕ) → Holds session.old.line t → TextAt out.old at (turnover_from (standing_of session.old.state) t []) result out.new }
     ensures upper_bound { result ≤ at + (longest + longest) }
+    ensures line_stays { session.new.line ≡ session.old.line }
 {
     if session.line.is_empty() {
         return session.state.close(out, at);
