@@ -20,13 +20,13 @@ pub fn event_at(archive: Archive, k: usize) -> Record
     record::load(archive.record(k))
 }
 
-// Entries block b, as a part of the archive.
-pub fn block_at<'a>(archive: Archive<'a>, b: usize) -> &'a [u8]
-    requires { b < blocks archive.bytes.now }
-    ensures { result.now ≡ block_of archive.entry.bytes.now b }
+// Entries block b of any bytes, as a part of them.
+pub fn block_at<'a>(a: &'a [u8], b: usize) -> &'a [u8]
+    requires { b < blocks a.now }
+    ensures { result.now ≡ block_of a.now b }
 {
     let o = (b + 1) * checksum::BLOCK;
-    &archive.bytes[o..o + checksum::BLOCK]
+    &a[o..o + checksum::BLOCK]
 }
 
 // Record k of a block.

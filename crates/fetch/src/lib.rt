@@ -68,7 +68,7 @@ pub fn collect_all(archive: Archive, numbers: &[u64], copies: &mut [u8]) -> usiz
     let mut count = 0;
     let mut from = 0;
     while let Some(b) = next_block(numbers, from, blocks) {
-        count = collect(events::block_at(archive, b), numbers, copies, count);
+        count = collect(events::block_at(archive.bytes, b), numbers, copies, count);
         from = b + 1;
     }
     count

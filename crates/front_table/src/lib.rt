@@ -1,9 +1,9 @@
 // The table of first bytes: what the first four bytes of a record may be, by the header of its archive.
 #![tactic(auto)]
 
-ghost use Rattle.std.specs.Prelude.{◌≡◌, true, ◌≤◌, ◌<◌, ◌+◌, ◌*◌, eqb, length, get_or};
+ghost use Rattle.std.specs.Prelude.{◌≡◌, ◌≤◌, ◌<◌, ◌+◌, ◌*◌, eqb, length, get_or};
 ghost use Rattle.record.specs.Record.{kind_byte};
-ghost use Rattle.header.specs.Header.{parse_header, table_at, well_made_header};
+ghost use Rattle.header.specs.Header.{parse_header, table_at};
 ghost use Rattle.front_table.specs.Fronts.{limit_of, Row, Fronts, place_of};
 
 use record::Kind;
@@ -56,18 +56,19 @@ pub fn fronts(head: &[u8], n: u8) -> [u32; 256]
     r
 }
 
-// A tested header block, and the first bytes of the records that it allows.
+// A header block, whatever its other fields, and the first bytes of the records that it allows.
 #[derive(Clone, Copy)]
 pub struct Allowed<'a> {
     pub head: &'a [u8],
     pub fronts: [u32; 256],
-    ghost tested: { well_made_header head.now ≡ true },
+    ghost block: { length head.now ≡ 512 },
+    ghost few: { (parse_header head.now).n ≤ 8 },
     ghost stand: { Fronts (parse_header head.now).n (table_at 8 head.now 32) fronts },
 }
 
 impl<'a> Allowed<'a> {
     pub fn by(head: &'a [u8]) -> Allowed<'a>
-        requires { well_made_header head.now ≡ true }
+        requires { (length head.now ≡ 512) × ((parse_header head.now).n ≤ 8) }
         ensures { result.head.now ≡ head.now }
     {
         Allowed {

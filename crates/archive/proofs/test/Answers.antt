@@ -1,6 +1,7 @@
 use mathlib.Core.Path.{◌∙◌, sym}
 use borrow.Author.Tests.{eq-eqb, ne_eqb}
 use Rattle.codec.proofs.EveryLaws.{every_none}
+use Rattle.header.proofs.Laws.{header-small, well_made-length}
 use Rattle.archive.specs.Archive.{blocks, blocks_fit, archive_test}
 use Rattle.archive.proofs.Laws.{short-refused}
 use Rattle.archive.proofs.test.Goals as goal
@@ -22,6 +23,11 @@ unfolding archive_test blocks_fit blocks
 returns-then-n-eq0 c =
     let h = sym c.well_made.ensures ∙ c.if-not-well_made.false in
     rw (eq-eqb _ 0 c.if-a-ne0.false, h, c.if-n-eq0.true) (sym (every_none _))
+
+pub by-requires : goal.by-requires
+by-requires c =
+    let h = sym c.well_made.ensures ∙ c.if-not-well_made.false in
+    (well_made-length _ h, header-small _ h)
 
 pub returns : goal.returns
 unfolding archive_test blocks

@@ -2,7 +2,6 @@ use Prim.Native.Nat.{ℕ}
 use mathlib.Core.Path.{◌∙◌, sym}
 use native.Mathlib.Omega.{arith}
 use Rattle.header.specs.Header.{parse_header, table_at}
-use Rattle.header.proofs.Laws.{header-small, well_made-length}
 use Rattle.entries.proofs.Laws.{fields_parts}
 use Rattle.block_test.proofs.SweepLaws.{sound_law, block_refused}
 use Rattle.block_test.proofs.block_fits.Goals as goal
@@ -17,16 +16,10 @@ sound-requires c =
     let p = fields_parts c.args.block.now (sym c.fields_fit.ensures ∙ c.if-not-fields_fit.false) in
     (c.requires, omega (arith, c.count_of-count.ensures), omega (arith, c.count_of-count.ensures))
 
-pub bounds-head-1 : goal.bounds-head-1
-bounds-head-1 c = omega (arith, well_made-length _ c.args.allowed.now.tested)
-
-pub get-requires-2 : goal.get-requires-2
-get-requires-2 c = omega (arith, well_made-length _ c.args.allowed.now.tested)
-
 pub returns : goal.returns
 returns c =
     let a = c.args in
     let l = a.allowed.now in
     let f = sym c.fields_fit.ensures ∙ c.if-not-fields_fit.false in
-    let e = sound_law a.block.now c.requires (λ (i : ℕ). omega (arith, c.type_inv.block i)) (parse_header l.head.now) (table_at 8 l.head.now 32) l.fronts (header-small _ l.tested) l.stand a.number a.last f in
+    let e = sound_law a.block.now c.requires (λ (i : ℕ). omega (arith, c.type_inv.block i)) (parse_header l.head.now) (table_at 8 l.head.now 32) l.fronts l.few l.stand a.number a.last f in
     rw (c.get.ensures, c.sound.ensures, c.counts_fit.ensures, c.get-2.ensures, c.count_of-count.ensures) (sym e)
