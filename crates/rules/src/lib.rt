@@ -42,7 +42,7 @@ fn turned(limits: [[u8; 8]; 8]) -> [[u8; 8]; 8]
     ]
 }
 
-// The limits by sender, and by receiver.
+// The limits by sender, and by receiver: lent to each test, since a copy for each row would cost more than the tests.
 #[derive(Clone, Copy)]
 struct Links {
     limits: [[u8; 8]; 8],
@@ -61,9 +61,9 @@ impl Links {
     }
 
     // Station i has a link to another exactly where it has one from there. No early exit, so that the row is vectorised.
-    fn row_both_ways(self, i: usize) -> bool
+    fn row_both_ways(&self, i: usize) -> bool
         requires { i < 8 }
-        ensures { result ≡ every 8 (both_or_none self.limits i) }
+        ensures { result ≡ every 8 (both_or_none self.now.limits i) }
     {
         let mut ok = true;
         for j in 0..8 {
@@ -73,8 +73,8 @@ impl Links {
     }
 
     // No station has a link to itself, and every link has one back.
-    fn linked_both_ways(self) -> bool
-        ensures { result ≡ (zero_diagonal self.limits && linked_both_ways self.limits) }
+    fn linked_both_ways(&self) -> bool
+        ensures { result ≡ (zero_diagonal self.now.limits && linked_both_ways self.now.limits) }
     {
         for i in 0..8 {
             let own = self.limits[i][i];
@@ -86,9 +86,9 @@ impl Links {
     }
 
     // The limits of station i's links, out and in, added up.
-    fn around(self, i: usize) -> u32
+    fn around(&self, i: usize) -> u32
         requires { i < 8 }
-        ensures { (result ≡ sum 8 (between self.limits i)) × (result ≤ 4080) }
+        ensures { (result ≡ sum 8 (between self.now.limits i)) × (result ≤ 4080) }
     {
         let mut s: u32 = 0;
         for j in 0..8 {
@@ -100,8 +100,8 @@ impl Links {
     }
 
     // Stations n and above have no allowance, and each station's allowance and limits are at most t together.
-    fn allowances_fit(self, h: Header) -> bool
-        ensures { result ≡ (every 8 (allowance_below h.n h.allowances) && within_ceiling h.t h.allowances self.limits) }
+    fn allowances_fit(&self, h: Header) -> bool
+        ensures { result ≡ (every 8 (allowance_below h.n h.allowances) && within_ceiling h.t h.allowances self.now.limits) }
     {
         let top = usize::from(h.n);
         let ceiling = u32::from(h.t);

@@ -14,15 +14,15 @@ use Rattle.rules.proofs.Links.allowances_fit.Goals.{After-around, At-loop-i}
 -- both tests, of all stations
 both-tests : (c : goal.At-loop-i)
     → let a = c.args in
-    every 8 (λ (k : ℕ). allowance_below a.h.n a.h.allowances k && within_at a.h.t a.h.allowances a.self.limits k) ≡ (every 8 (allowance_below a.h.n a.h.allowances) && within_ceiling a.h.t a.h.allowances a.self.limits)
+    every 8 (λ (k : ℕ). allowance_below a.h.n a.h.allowances k && within_at a.h.t a.h.allowances a.self.now.limits k) ≡ (every 8 (allowance_below a.h.n a.h.allowances) && within_ceiling a.h.t a.h.allowances a.self.now.limits)
 unfolding within_ceiling
-both-tests c = let a = c.args in every_both _ (allowance_below a.h.n a.h.allowances) (within_at a.h.t a.h.allowances a.self.limits) (λ k. refl) 8
+both-tests c = let a = c.args in every_both _ (allowance_below a.h.n a.h.allowances) (within_at a.h.t a.h.allowances a.self.now.limits) (λ k. refl) 8
 
 -- both of one station
 tested : (c : goal.After-around)
     → let a = c.args in
     let i = c.loop-i.i in
-    (allowance_below a.h.n a.h.allowances i && within_at a.h.t a.h.allowances a.self.limits i)
+    (allowance_below a.h.n a.h.allowances i && within_at a.h.t a.h.allowances a.self.now.limits i)
     ≡ ((ltb i c.from-top.result || eqb (get_or a.h.allowances i 0) 0) && leb (c.from.result + c.around.result) c.from-ceiling.result)
 tested c = rw (c.around.ensures.0, c.from.ensures, c.from-ceiling.ensures, c.from-top.ensures)
 

@@ -15,8 +15,8 @@ pub loop-j-preserved : goal.loop-j-preserved
 unfolding limit
 loop-j-preserved c =
     let l = c.loop-j in
-    let e : get_or (get_or c.args.self.back c.args.i []) l.j 0 ≡ limit c.args.self.limits l.j c.args.i = rw c.args.self.turned (turned_at c.args.self.limits c.args.i l.j c.requires (omega arith)) in
-    (omega arith, omega (arith, sum_more l.j (between c.args.self.limits c.args.i)), omega arith)
+    let e : get_or (get_or c.args.self.now.back c.args.i []) l.j 0 ≡ limit c.args.self.now.limits l.j c.args.i = rw c.args.self.now.turned (turned_at c.args.self.now.limits c.args.i l.j c.requires (omega arith)) in
+    (omega arith, omega (arith, sum_more l.j (between c.args.self.now.limits c.args.i)), omega arith)
 
 pub returns : goal.returns
 returns c = let e : c.loop-j.j ≡ 8 = omega arith in (rw e at c.loop-j.invariant.1, omega arith)

@@ -14,13 +14,13 @@ use Rattle.rules.proofs.Links.linked_both_ways.Goals as goal
 use Rattle.rules.proofs.Links.linked_both_ways.Goals.{After-row_both_ways, At-loop-i}
 
 -- both tests, of all stations
-both-tests : (c : goal.At-loop-i) → let m = c.args.self.limits in every 8 (λ (k : ℕ). zero_at m k && every 8 (both_or_none m k)) ≡ (zero_diagonal m && linked_both_ways m)
+both-tests : (c : goal.At-loop-i) → let m = c.args.self.now.limits in every 8 (λ (k : ℕ). zero_at m k && every 8 (both_or_none m k)) ≡ (zero_diagonal m && linked_both_ways m)
 unfolding zero_diagonal linked_both_ways
-both-tests c = every_both _ (zero_at c.args.self.limits) (λ (k : ℕ). every 8 (both_or_none c.args.self.limits k)) (λ k. refl) 8
+both-tests c = every_both _ (zero_at c.args.self.now.limits) (λ (k : ℕ). every 8 (both_or_none c.args.self.now.limits k)) (λ k. refl) 8
 
 -- both of one station
 tested : (c : goal.After-row_both_ways)
-    → let m = c.args.self.limits in
+    → let m = c.args.self.now.limits in
     let i = c.loop-i.i in
     (zero_at m i && every 8 (both_or_none m i)) ≡ (eqb (get_or (get_or m i []) i 0) 0 && c.row_both_ways.result)
 unfolding limit

@@ -13,7 +13,7 @@ pub loop-j-preserved : goal.loop-j-preserved
 unfolding limit
 loop-j-preserved c =
     let l = c.loop-j in
-    (omega arith, simp (every_turn, l.invariant.1, c.args.self.turned, turned_at c.args.self.limits c.args.i l.j c.requires (omega arith)))
+    (omega arith, simp (every_turn, l.invariant.1, c.args.self.now.turned, turned_at c.args.self.now.limits c.args.i l.j c.requires (omega arith)))
 
 pub returns : goal.returns
 returns c = let e : c.loop-j.j ≡ 8 = omega arith in rw e at c.loop-j.invariant.1
