@@ -17,7 +17,7 @@ pub const SIZE: usize = 715;
 pub const ITEM_SIZE: usize = 21;
 
 // The first byte of an item in a link's bytes, by its kind.
-const MESSAGE: u8 = 1;
+pub const MESSAGE: u8 = 1;
 
 pub const RESET_REQ: u8 = 2;
 
