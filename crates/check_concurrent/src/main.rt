@@ -43,15 +43,25 @@ fn event(k: usize) -> Record
     }
 }
 
-// The bytes of `count` records, and zeros.
-fn records(count: usize) -> [u8; 96000]
-    requires { count ≤ 3000 }
+// The bytes of 15 records from number `first` on.
+fn records(first: usize) -> [u8; 480]
+    requires { first < 9000 }
 {
-    let mut rs = [0u8; 96000];
-    for k in 0..count {
-        check_vectors::place(&mut rs, k, event(k));
+    let mut rs = [0u8; 480];
+    for j in 0..15 {
+        check_vectors::place(&mut rs, j, event(first + j));
     }
     rs
+}
+
+// Block b, from 1, of an archive of `count` records: made alone, since all records together would take a part of the stack that few runs need.
+fn block(a: &mut [u8], b: u32, count: usize)
+    requires { (1 ≤ b) × (b ≤ 200) }
+{
+    let first = (b as usize - 1) * 15;
+    let rs = records(first);
+    let size = count.saturating_sub(first).min(15) * 32;
+    let _ = check_vectors::block(a, b, &rs[..size]);
 }
 
 // An archive of `count` records.
@@ -63,16 +73,17 @@ fn make(a: &mut [u8], count: usize)
         t: 2000,
         allowances: [0u16; 8],
     };
-    let rs = records(count);
-    check_vectors::archive(a, h, [[5u8; 8]; 8], &rs[..count * 32]);
+    check_vectors::archive(a, h, [[5u8; 8]; 8], &[]);
+    for b in 0..count.div_ceil(15) {
+        block(a, b as u32 + 1, count);
+    }
 }
 
 // Block 2 with `count` records.
 fn second_block(a: &mut [u8], count: usize)
     requires { count ≤ 15 }
 {
-    let rs = records(30);
-    let _ = check_vectors::block(a, 2, &rs[480..480 + count * 32]);
+    block(a, 2, 15 + count);
 }
 
 // ---- what is written
@@ -169,7 +180,7 @@ fn run_all(rt: &impl Print) -> io::Result<()> {
     Ok(())
 }
 
-// A write that fails ends the run, and there is nobody to tell.
+// A write that fails is left: there is nobody to tell.
 fn main(rt: HostRuntime) {
-    let _ = run_all(&rt);
+    let _ = run_all(&check_vectors::Unheard(&rt));
 }

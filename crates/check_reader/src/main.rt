@@ -176,7 +176,7 @@ fn run_all(rt: &impl Print) -> io::Result<()> {
     spoilt(rt, a, 1536, 1534, 0)
 }
 
-// A write that fails ends the run, and there is nobody to tell.
+// A write that fails is left: there is nobody to tell.
 fn main(rt: HostRuntime) {
-    let _ = run_all(&rt);
+    let _ = run_all(&check_vectors::Unheard(&rt));
 }

@@ -52,7 +52,7 @@ fn run_all(rt: &impl Print) -> Result<()> {
     Ok(())
 }
 
-// A write that fails ends the run, and there is nobody to tell.
+// A write that fails is left: there is nobody to tell.
 fn main(rt: HostRuntime) {
-    let _ = run_all(&rt);
+    let _ = run_all(&check_vectors::Unheard(&rt));
 }

@@ -4,6 +4,7 @@
 mod archives;
 mod line;
 mod sweeps;
+mod unheard;
 
 ghost use Rattle.std.specs.Prelude.{◌≡◌, ◌<◌, get_or};
 
@@ -13,6 +14,7 @@ pub use line::{Line, ends_line, input};
 use refusals::Refusal;
 use std::fmt;
 pub use sweeps::{Kind, record_answer, resealed, sweep, table};
+pub use unheard::Unheard;
 
 pub fn poke(d: &mut [u8], at: usize, x: u8) {
     if at < d.len() {

@@ -66,7 +66,9 @@ fn refused(kind: Kind, good: &[u8], from: usize, to: usize, x: u8) -> usize
 }
 
 // How many values of a byte are accepted, sealed again.
-fn values(kind: Kind, good: &[u8], at: usize) -> usize {
+fn values(kind: Kind, good: &[u8], at: usize) -> usize
+    ensures { result ≤ 256 }
+{
     (0..=u8::MAX)
         .filter(|x| resealed(kind, good, at, *x).is_ok())
         .count()
