@@ -94,6 +94,7 @@ pub fn receipt(
     text::word(out, c, b"\n")
 }
 
+#[tactic(auto, unfolding(crate::specs::Answer::mode_word))]
 fn mode_word(mode: u8) -> &'static [u8]
     ensures is { result.now ≡ word_of mode }
     ensures upper_bound { length result.now ≤ longest_mode }

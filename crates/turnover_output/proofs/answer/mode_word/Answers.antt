@@ -4,14 +4,6 @@ use Rattle.std.proofs.Common.{◌≢◌}
 use Rattle.turnover_output.specs.Answer.{mode_word}
 use Rattle.turnover_output.proofs.answer.mode_word.Goals as goal
 
-pub returns-in-0-clause-is : goal.returns-in-0-clause-is
-unfolding mode_word
-returns-in-0-clause-is c = rw c.in-0.is
-
-pub returns-in-1-clause-is : goal.returns-in-1-clause-is
-unfolding mode_word
-returns-in-1-clause-is c = rw c.in-1.is
-
 pub returns-in_default-clause-is : goal.returns-in_default-clause-is
 unfolding mode_word
 returns-in_default-clause-is c =
