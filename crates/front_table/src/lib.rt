@@ -3,7 +3,7 @@
 
 ghost use Rattle.std.specs.Prelude.{◌≡◌, ◌≤◌, ◌<◌, ◌+◌, ◌*◌, eqb, length, get_or};
 ghost use Rattle.record.specs.Record.{kind_byte};
-ghost use Rattle.header.specs.Header.{parse_header, table_at};
+ghost use Rattle.header.specs.Header.{parse_header, table_at, well_made_header};
 ghost use Rattle.front_table.specs.Fronts.{limit_of, Row, Fronts, place_of};
 
 use record::Kind;
@@ -67,9 +67,11 @@ pub struct Allowed<'a> {
 }
 
 impl<'a> Allowed<'a> {
+    // The table for a block, which stays the one that was lent: it passes its test just where that does.
     pub fn by(head: &'a [u8]) -> Allowed<'a>
         requires { (length head.now ≡ 512) × ((parse_header head.now).n ≤ 8) }
-        ensures { result.head.now ≡ head.now }
+        ensures head { result.head.now ≡ head.now }
+        ensures tested { well_made_header result.head.now ≡ well_made_header head.now }
     {
         Allowed {
             head,

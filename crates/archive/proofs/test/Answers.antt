@@ -33,4 +33,4 @@ pub returns : goal.returns
 unfolding archive_test blocks
 returns c =
     let h = sym c.well_made.ensures ∙ c.if-not-well_made.false in
-    rw (eq-eqb _ 0 c.if-a-ne0.false, h) (rw c.by.ensures at c.blocks_fit.ensures)
+    rw (eq-eqb _ 0 c.if-a-ne0.false, h) (rw c.by.ensures.head at c.blocks_fit.ensures)
