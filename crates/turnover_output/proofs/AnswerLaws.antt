@@ -1,5 +1,5 @@
 -- Pieces of a line. Assumes nothing.
-use Prim.Native.Nat.{ℕ, ◌+◌, ◌<◌, ◌≤◌, min}
+use Prim.Native.Nat.{ℕ, ◌+◌, ◌^◌, ◌<◌, ◌≤◌, min}
 use mathlib.Core.Path.{◌≡◌, ◌∙◌, sym}
 use mathlib.Core.List.{List, [], ◌∷◌, ◌++◌, append_assoc, append-nil}
 use native.Mathlib.Omega.{arith}
@@ -9,6 +9,9 @@ use mir.Syntax.{w8, w16, w32, w64}
 use mir.Val.{Fits}
 use lib.ListN.{length, take, get_or}
 use lib.Seq.{take-suc, take_all}
+use Rattle.refusals.specs.declared.Refusal.{Refusal}
+use Rattle.refusals.specs.declared.Refusal.TheVariants.{Malformed, IllFormedState, NetworkRule, NoSuchStation, ModeForbids, UsedUp, EmptyLink, NoMorePhases, DifferentPhases, BufferLength, NoSuchRecord, IllKept, SheetTooLong}
+use Rattle.refusals.specs.Numbers.{number_of}
 use Rattle.decimal.specs.Ascii.{ascii}
 use Rattle.decimal.specs.Decimal.{decimal, spaced}
 use Rattle.decimal.proofs.DecimalLaws.{decimal-length}
@@ -26,6 +29,25 @@ length16 x y e h = decimal-length 4 y (omega arith)
 
 pub length8 : (x y : ℕ) → y ≡ x → Fits w8 x → length (decimal y) ≤ 3
 length8 x y e h = decimal-length 2 y (omega arith)
+
+-- the number of a refusal
+pub refusal-length : (r : Refusal) (y : ℕ) → y ≡ number_of r → length (decimal y) ≤ 3
+refusal-length r y e = decimal-length 2 y (rw e (below r))
+  where
+    below : (r : Refusal) → number_of r < 10 ^ 3
+    below Malformed = omega arith
+    below IllFormedState = omega arith
+    below NetworkRule = omega arith
+    below NoSuchStation = omega arith
+    below ModeForbids = omega arith
+    below UsedUp = omega arith
+    below EmptyLink = omega arith
+    below NoMorePhases = omega arith
+    below DifferentPhases = omega arith
+    below BufferLength = omega arith
+    below NoSuchRecord = omega arith
+    below IllKept = omega arith
+    below SheetTooLong = omega arith
 
 -- ---- the pieces of an opening
 pub opening-pieces : (number : ℕ) (word : List ℕ) (phase station : ℕ) → decimal number ++ word ++ decimal phase ++ ascii " " ++ decimal station ≡ opening number word phase station
