@@ -67,7 +67,7 @@ pub struct Allowed<'a> {
 }
 
 impl<'a> Allowed<'a> {
-    // The table for a block, which stays the one that was lent: it passes its test just where that does.
+    // A block with its table. The block in it is the one that was lent, and so passes its test just where that does.
     pub fn by(head: &'a [u8]) -> Allowed<'a>
         requires { (length head.now ≡ 512) × ((parse_header head.now).n ≤ 8) }
         ensures head { result.head.now ≡ head.now }
